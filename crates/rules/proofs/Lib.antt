@@ -1,0 +1,16 @@
+pub mod Bools
+pub mod Lists
+pub mod Checks
+pub mod Unique
+pub mod Owners
+pub mod Ledger
+pub mod Branches
+pub mod Sound
+pub mod Payments
+pub mod Entries
+pub mod Bound
+pub mod Keep
+pub mod Theorem
+pub mod Exactly
+pub mod Simulation
+pub mod Figures

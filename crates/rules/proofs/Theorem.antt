@@ -1,0 +1,176 @@
+-- Each kind of call keeps what it must; so any list of calls does. Assumes nothing.
+use mathlib.Core.Path.{_≡_, refl, ap, ap₂, _∙_, subst}
+use mathlib.Core.Bool.{true, not, _&&_}
+use mathlib.Core.List.{List, [], _∷_, _++_}
+use mathlib.Core.Option.{none, some}
+use Prim.Native.Nat.{ℕ, _^_, _<_}
+use native.Mathlib.Omega.{arith}
+use lib.ListN.{length}
+use lib.IntN.{ℤ, pos, negℤ, natAbs, _+ℤ_, +ℤ-assoc, +ℤ-idl}
+use lib.Dec.{T, leb, ltb, leb→le, ltb→lt}
+use lib.Signed.{nonNeg, _≤ℤ_}
+use Rattle.amount.specs.Amount.{difference, isLimit}
+use Rattle.amount.proofs.Integer.{difference-add, difference-up, difference-down, ≤ℤ-out, nonNeg-in, nonNeg-up}
+use Rattle.octets.specs.Octets.{isBytes}
+use Rattle.rules.specs.Account.{Value, Account, balance, state, held, isNone, isBank, noTurnovers, withLimits, opened, codes, blank, at, total}
+use Rattle.rules.specs.Command.{Header, Command, Bank, Branch, Funding, Withdrawal, BankLimits, Payment, Change, Deletion, Query, Opening, Call, every, isCode, isMethod, isDay, isCount, isHeader, isItem, wellFormed}
+use Rattle.rules.specs.History.{Event, Funds, Withdraws, Nothing, event, events, funds, withdraws, sumOf, bring, drain, count, brought, taken}
+use Rattle.rules.specs.Invariant.{All, Limited, Fit, Book, Invariant}
+use Rattle.rules.specs.Machine.{Machine, empty, withAccounts, withId, hasBookPlace, checks, effect, firstFailure, answer, ifAccepted, next, outcome, run, outcomes}
+use Rattle.rules.specs.Message.{named, isMessageId, inBook, isBranchOf, limitChecks, touch, cleared}
+use Rattle.rules.specs.Payment.{isCredit, payer, payee, paymentChecks}
+use Rattle.rules.proofs.Bools.{and-l, and-r}
+use Rattle.rules.proofs.Bound.{less-bounded}
+use Rattle.rules.proofs.Branches.{Metered}
+use Rattle.rules.proofs.Checks.{passed, by-answer}
+use Rattle.rules.proofs.Entries.{book-joined}
+use Rattle.rules.proofs.Keep.{Kept, still-refl, still-adjust, still-items, none-moved, kept-still, kept-join, kept-start, kept-pay, kept-newDay}
+use Rattle.rules.proofs.Ledger.{inflow, outflow, balance-is, payer-known, payee-known, quiet-limits, quiet-touch, held-opened}
+use Rattle.rules.proofs.Lists.{all-imp, all-at, all-adjust}
+use Rattle.rules.proofs.Sound.{fit-opened, fit-limits, state-bank, stays, Timely, timely, branch-no-bank, cleared-ok, fit-touch, fit-items}
+use Rattle.rules.proofs.Unique.{found}
+
+-- an accepted message's id joins the book
+noted : (m : Machine) (h : Header) → Invariant m → T (not (inBook (h .id) (m .ids))) → T (isMessageId (h .id)) → T (hasBookPlace m)
+    → Book (m .day) (m .ids ++ (record { id = h .id; day = m .day } ∷ []))
+unfolding hasBookPlace
+noted m h v new ok room = book-joined (m .day) (h .id) (m .ids) new ok room (v .book)
+
+pub keep : (m : Machine) (room : ℕ) (k : Command) → Invariant m → firstFailure (checks m room k) ≡ 0 → Kept m (effect m k) (event k)
+unfolding checks effect event wellFormed isMethod isDay withAccounts withId paymentChecks limitChecks every opened isNone funds withdraws bring drain
+keep m room (Bank c) v e =
+    kept-join m (opened c none 0 0) v refl (held-opened c none 0 0)
+    (fit-opened (m .day) c none 0 0 (passed 1 _ tt e) (omega arith) (omega arith) (λ b. (refl, refl))) tt (passed 2 _ tt e) (passed 3 _ tt e)
+keep m room (Branch c o l p) v e =
+    let w : T (isCode c && isCode o && leb l 3 && leb p 3) = passed 1 _ tt e in
+    kept-join m (opened c (some o) l p) v refl (held-opened c (some o) l p)
+    (fit-opened (m .day) c (some o) l p (search (and-l, and-r)) (leb→le l 3 (search (and-l, and-r))) (leb→le p 3 (search (and-l, and-r))) (λ b. absurd b))
+    (passed 4 _ tt e, passed 5 _ tt e) (passed 2 _ tt e) (passed 3 _ tt e)
+keep m room (Funding c a) v e =
+    let f : Fit (m .day) (at c (m .accounts)) = all-at c (Fit (m .day)) (m .accounts) (passed 4 _ tt e) (v .fit) in
+    kept-start m c (pos (natAbs a)) (Funds (natAbs a)) v (passed 4 _ tt e) (passed 5 _ tt e) (nonNeg-up (held (at c (m .accounts))) (natAbs a) (f .not-below))
+    (difference-up (natAbs a)) (λ c i. refl) (λ c j. refl) (passed 8 _ tt e)
+keep m room (Withdrawal c a) v e =
+    let x : Account = at c (m .accounts) in
+    let f : Fit (m .day) x = all-at c (Fit (m .day)) (m .accounts) (passed 4 _ tt e) (v .fit) in
+    let b : T (isBank x) = passed 5 _ tt e in
+    kept-start m c (negℤ (pos (natAbs a))) (Withdraws (natAbs a)) v (passed 4 _ tt e) b (stays (m .day) x (natAbs a) b (passed 9 _ tt e) f)
+    (difference-down (natAbs a)) (λ c i. refl) (λ c j. refl) (less-bounded (m .accounts) (natAbs a) (v .bounded))
+keep m room (BankLimits c l p) v e =
+    let xs : List Account = m .accounts in
+    let r : T (nonNeg l && isLimit l && isLimit p) = passed 6 _ tt e in
+    let g : Limited ((at c xs) .owner) (Value l) (Value p) =
+    record { ltk-ok = search (and-l, and-r); lpo-ok = search (and-l, and-r); bank-ltk = λ b. search (and-l, and-r); bank-lpo = λ b. tt } in
+    kept-still m (effect m (BankLimits c l p)) v refl (still-adjust c (quiet-limits (Value l) (Value p)) xs)
+    (all-adjust c (withLimits (Value l) (Value p)) (Fit (m .day)) xs
+    (λ kn. fit-limits (m .day) (at c xs) (all-at c (Fit (m .day)) xs kn (v .fit)) (Value l) (Value p) g) (v .fit))
+    (v .book)
+keep m room (Payment w s r a) v e =
+    kept-pay m (isCredit w) (natAbs a) (payer (isCredit w) s r) (payee (isCredit w) s r) v
+    (payer-known (isCredit w) s r (m .accounts) (passed 4 _ tt e)) (payee-known (isCredit w) s r (m .accounts) (passed 4 _ tt e)) (passed 9 _ tt e) (passed 8 _ tt e)
+keep m room (Change h is) v e =
+    let w : T (isHeader h && isCount (length is) && every isItem is) = passed 1 _ tt e in
+    let t : Timely (m .day) h = timely (m .day) h (and-l (isHeader h) (isCount (length is)) (and-l (isHeader h && isCount (length is)) (every isItem is) w)) (passed 17 _ tt e) in
+    kept-still m (effect m (Change h is)) v refl (still-items h is (m .accounts))
+    (fit-items (m .day) h t (m .accounts) is (passed 20 _ tt e) (passed 6 _ tt e) (m .accounts) (λ c. refl) (v .fit))
+    (noted m h v (passed 14 _ tt e) (passed 16 _ tt e) (passed 22 _ tt e))
+keep m room (Deletion h i t) v e =
+    let xs : List Account = m .accounts in
+    let w : T (isHeader h && isBytes 10 i && ltb t 256) = passed 1 _ tt e in
+    let g : Timely (m .day) h = timely (m .day) h (and-l (isHeader h) (isBytes 10 i) (and-l (isHeader h && isBytes 10 i) (ltb t 256) w)) (passed 17 _ tt e) in
+    let b : T (isBranchOf (h .sender) (named i) xs && true) = passed 20 _ tt e in
+    kept-still m (effect m (Deletion h i t)) v refl (still-adjust (named i) (quiet-touch h t cleared) xs)
+    (all-adjust (named i) (touch h t cleared) (Fit (m .day)) xs
+    (λ kn. fit-touch (m .day) h g t cleared cleared-ok (at (named i) xs) (branch-no-bank (h .sender) (named i) xs (and-l (isBranchOf (h .sender) (named i) xs) true b)) (all-at (named i) (Fit (m .day)) xs kn (v .fit)))
+    (v .fit))
+    (noted m h v (passed 14 _ tt e) (passed 16 _ tt e) (passed 22 _ tt e))
+keep m room (Query h is) v e =
+    kept-still m (effect m (Query h is)) v refl (still-refl (m .accounts)) (v .fit) (noted m h v (passed 14 _ tt e) (passed 16 _ tt e) (passed 22 _ tt e))
+keep m room (Opening d) v e =
+    let l : m .day < d = ltb→lt (m .day) d (passed 13 _ tt e) in
+    kept-newDay m d v (omega arith) (ltb→lt d (2 ^ 32) (passed 1 _ tt e))
+
+-- a call, whatever its answer
+pub next-keeps : (m : Machine) (k : Call) → Invariant m → Kept m (next m k) (ifAccepted (answer m k) (event (k .command)) Nothing)
+unfolding ifAccepted answer
+next-keeps m k v =
+    by-answer (λ n m′. Kept m m′ (ifAccepted n (event (k .command)) Nothing)) m k
+    (λ n. kept-still m m v refl (still-refl (m .accounts)) (v .fit) (v .book)) (keep m (k .room) (k .command) v)
+
+-- ---- every list of calls
+
+pub start-inv : Invariant empty
+unfolding empty codes total
+start-inv = record {
+  fit = tt;
+  table = record { distinct = tt; few = omega arith };
+  owned = tt;
+  earlier = tt;
+  bounded = tt;
+  book = record { few = omega arith; fit = tt; in-order = tt };
+  day-fits = omega arith;
+}
+
+pub run-inv : (ks : List Call) (m : Machine) → Invariant m → Invariant (run m ks)
+unfolding run
+run-inv [] m v = v
+run-inv (k ∷ ks) m v = run-inv ks (next m k) (next-keeps m k v .inv)
+
+pub reachable : (ks : List Call) → Invariant (run empty ks)
+reachable ks = run-inv ks empty start-inv
+
+run-sum : (ks : List Call) (m : Machine) → Invariant m
+    → total held ((run m ks) .accounts) ≡ total held (m .accounts) +ℤ difference (sumOf funds (events ks (outcomes m ks))) (sumOf withdraws (events ks (outcomes m ks)))
+unfolding run events outcomes outcome sumOf
+run-sum [] m v = none-moved _ _ refl
+run-sum (k ∷ ks) m v =
+    let n : Kept m (next m k) (ifAccepted (answer m k) (event (k .command)) Nothing) = next-keeps m k v in
+    run-sum ks (next m k) (n .inv)
+    ∙ ap (λ z. z +ℤ difference (sumOf funds (events ks (outcomes (next m k) ks))) (sumOf withdraws (events ks (outcomes (next m k) ks)))) (n .sum)
+    ∙ +ℤ-assoc (total held (m .accounts)) _ _
+    ∙ ap (λ z. total held (m .accounts) +ℤ z) (difference-add _ _ _ _)
+
+run-metered : (c : ℕ) (ks : List Call) (m : Machine) → Invariant m → (i j : ℕ) → Metered c (m .accounts) i j
+    → Metered c ((run m ks) .accounts) (count (bring c) i (events ks (outcomes m ks))) (count (drain c) j (events ks (outcomes m ks)))
+unfolding run events outcomes outcome count
+run-metered c [] m v i j h = h
+run-metered c (k ∷ ks) m v i j h = run-metered c ks (next m k) (next-keeps m k v .inv) _ _ (next-keeps m k v .metered c i j h)
+
+start-metered : (c : ℕ) → Metered c (empty .accounts) 0 0
+unfolding empty at blank opened noTurnovers inflow outflow
+start-metered c nb = (refl, refl)
+
+start-total : (z : ℤ) → total held (empty .accounts) +ℤ z ≡ z
+unfolding empty total
+start-total z = +ℤ-idl z
+
+-- ---- the parts of the demand
+
+pub balanced : (ks : List Call)
+    → total held ((run empty ks) .accounts) ≡ difference (sumOf funds (events ks (outcomes empty ks))) (sumOf withdraws (events ks (outcomes empty ks)))
+balanced ks = run-sum ks empty start-inv ∙ start-total _
+
+bank-above : (today : ℕ) (x : Account) → Fit today x → T (isBank x) → pos 0 ≤ℤ state x
+bank-above today x f b = ≤ℤ-out (pos 0) (state x) (rw (state-bank x b) (omega (arith, nonNeg-in (held x) (f .not-below))))
+
+pub none-below : (ks : List Call) → All (λ x. T (isBank x) → pos 0 ≤ℤ state x) ((run empty ks) .accounts)
+none-below ks = all-imp (bank-above ((run empty ks) .day)) ((run empty ks) .accounts) (reachable ks .fit)
+
+pub branches : (ks : List Call)
+    → All (λ x. T (not (isBank x)) → balance (x .turnovers) ≡ difference (brought (x .code) (events ks (outcomes empty ks))) (taken (x .code) (events ks (outcomes empty ks)))) ((run empty ks) .accounts)
+unfolding brought taken isBank
+branches ks = all-imp at-code xs (found xs (reachable ks .table .distinct))
+  where
+    xs : List Account
+    xs = (run empty ks) .accounts
+
+    es : List Event
+    es = events ks (outcomes empty ks)
+
+    by-code : (c : ℕ) → T (not (isBank (at c xs))) → balance ((at c xs) .turnovers) ≡ difference (brought c es) (taken c es)
+    by-code c nb =
+        let h = run-metered c ks empty start-inv 0 0 (start-metered c) nb in
+        balance-is ((at c xs) .turnovers) ∙ ap₂ difference (h .0) (h .1)
+
+    at-code : (x : Account) → at (x .code) xs ≡ x → T (not (isBank x)) → balance (x .turnovers) ≡ difference (brought (x .code) es) (taken (x .code) es)
+    at-code x e = subst (λ y. T (not (isBank y)) → balance (y .turnovers) ≡ difference (brought (x .code) es) (taken (x .code) es)) e (by-code (x .code))
