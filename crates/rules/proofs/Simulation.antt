@@ -8,10 +8,10 @@ use lib.ListN.{length}
 use lib.IntN.{ℤ}
 use Rattle.rules.specs.Command.{Payment, Call}
 use Rattle.rules.specs.Demand.{Allowed, answerAt, Demand, Plays, done, then}
+use Rattle.rules.specs.Figures.{after}
 use Rattle.rules.specs.Machine.{Machine, empty, answer, next, Outcome, outcome, run, outcomes}
 use Rattle.rules.proofs.Exactly.{exactly}
 use Rattle.rules.proofs.Theorem.{balanced, none-below, branches}
-use Rattle.rules.proofs.Unique.{at-place}
 
 -- ---- lists of calls, one after the other
 
