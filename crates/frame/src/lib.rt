@@ -1,0 +1,192 @@
+// Frames read from lines of hexadecimal digits.
+ghost use mathlib.Core.Path.{_≡_};
+ghost use mathlib.Core.Bool.{true, _&&_};
+ghost use mathlib.Core.List.{_++_};
+ghost use Prim.Native.Nat.{_+_, _*_, _≤_, _<_};
+ghost use lib.ListN.{length, getD, drop};
+ghost use lib.Dec.{eqb};
+ghost use Rattle.rules.specs.Command.{isCount};
+ghost use Rattle.rules.specs.Message.{isDigit};
+ghost use Rattle.frame.specs.Hex.{isHex, allHex, nibble, unhex};
+ghost use Rattle.frame.specs.Field.{Field, sixDigits, wordAt, may};
+ghost use Rattle.frame.specs.Frame.{isFrame, readFrame};
+ghost use Rattle.frame.specs.Filled.{Filled};
+use rules::is_count;
+use rules::is_method;
+
+// The byte at i, and 0 past the end.
+fn at(b: &[u8], i: usize) -> u8
+    ensures { λ r. ⌜ r ≡ getD (now (b .entry)) i 0 ⌝ }
+{
+    if i < b.len() { b[i] } else { 0 }
+}
+
+// An ASCII digit.
+fn is_digit(d: u8) -> bool
+    ensures { λ r. ⌜ r ≡ isDigit d ⌝ }
+{
+    (48 <= d) & (d <= 57)
+}
+
+fn digit_at(b: &[u8], i: usize) -> bool
+    ensures { λ r. ⌜ r ≡ isDigit (getD (now (b .entry)) i 0) ⌝ }
+{
+    is_digit(at(b, i))
+}
+
+// Six digits from i on.
+fn code_at(b: &[u8], i: usize) -> bool
+    requires { ⌜ i < 400 ⌝ }
+    ensures { λ r. ⌜ r ≡ sixDigits (now (b .entry)) i ⌝ }
+{
+    digit_at(b, i)
+        & (digit_at(b, i + 1)
+            & (digit_at(b, i + 2)
+                & (digit_at(b, i + 3) & (digit_at(b, i + 4) & digit_at(b, i + 5)))))
+}
+
+fn wide(x: u8) -> u32
+    ensures { λ r. ⌜ (r ≡ x) × (r < 256) ⌝ }
+{
+    x as u32
+}
+
+// Four bytes from i on, the high byte first.
+fn word_at(b: &[u8], i: usize) -> u32
+    requires { ⌜ i < 400 ⌝ }
+    ensures { λ r. ⌜ r ≡ wordAt (now (b .entry)) i ⌝ }
+{
+    let p = wide(at(b, i));
+    let q = wide(at(b, i + 1));
+    let s = wide(at(b, i + 2));
+    let t = wide(at(b, i + 3));
+    ((p * 256 + q) * 256 + s) * 256 + t
+}
+
+// Four bytes from i on that are the second of a day.
+fn second_at(b: &[u8], i: usize) -> bool
+    requires { ⌜ i < 400 ⌝ }
+    ensures { λ r. ⌜ r ≡ may Field.Second (now (b .entry)) i ⌝ }
+{
+    word_at(b, i) <= 86399
+}
+
+// The byte at i, as a count.
+fn count_at(b: &[u8], i: usize) -> usize
+    ensures { λ r. ⌜ (r ≡ getD (now (b .entry)) i 0) × (r < 256) ⌝ }
+{
+    let k = at(b, i);
+    k as usize
+}
+
+// Behind the header a count, and as many rows of `size` bytes, up to the end.
+fn rows_at(b: &[u8], size: usize) -> bool
+    requires { ⌜ size < 20 ⌝ }
+    ensures { λ r. ⌜ r ≡ (isCount (getD (now (b .entry)) 47 0) && eqb (length (now (b .entry))) (47 + (1 + getD (now (b .entry)) 47 0 * size))) ⌝ }
+{
+    let k = count_at(b, 47);
+    is_count(k) & (b.len() == 47 + (1 + k * size))
+}
+
+// Byte 0 is the kind. It chooses the fields behind it and, with them, the length.
+pub fn well_formed(b: &[u8]) -> bool
+    ensures { λ r. ⌜ r ≡ isFrame (now (b .entry)) ⌝ }
+{
+    let n = b.len();
+    let kind = at(b, 0);
+    match kind {
+        1 => code_at(b, 1) & (n == 7),
+        2 => {
+            code_at(b, 1)
+                & (code_at(b, 7) & (is_method(at(b, 13)) & (is_method(at(b, 14)) & (n == 15))))
+        }
+        3..=4 => code_at(b, 1) & (n == 15),
+        5 => code_at(b, 1) & (n == 23),
+        6 => (at(b, 1) <= 1) & (code_at(b, 2) & (code_at(b, 8) & (n == 22))),
+        7 => code_at(b, 1) & (second_at(b, 43) & rows_at(b, 19)),
+        8 => code_at(b, 1) & (second_at(b, 43) & (n == 58)),
+        9 => code_at(b, 1) & (second_at(b, 43) & rows_at(b, 10)),
+        10 => n == 5,
+        _ => false,
+    }
+}
+
+// A lowercase hexadecimal digit.
+fn is_hex(d: u8) -> bool
+    ensures { λ r. ⌜ r ≡ isHex d ⌝ }
+{
+    is_digit(d) | ((97 <= d) & (d <= 102))
+}
+
+// It looks at every digit, whatever came before: so the compiler takes many at a time.
+fn all_hex(line: &[u8]) -> bool
+    ensures { λ r. ⌜ r ≡ allHex (now (line .entry)) ⌝ }
+{
+    let mut all = true;
+    let mut i = 0;
+    while i < line.len() {
+        all = all & is_hex(line[i]);
+        i += 1;
+    }
+    all
+}
+
+// The value of a hexadecimal digit, by its low bits.
+fn digit_value(d: u8) -> u8
+    requires { ⌜ isHex d ≡ true ⌝ }
+    ensures { λ r. ⌜ (r ≡ nibble d) × (r < 16) ⌝ }
+{
+    d % 16 + d / 64 * 9
+}
+
+// The n bytes of a line of 2 * n hexadecimal digits.
+fn decode(line: &[u8], n: usize, buf: &mut [u8])
+    requires { ⌜ (length (now line) ≡ 2 * n) × (n ≤ length (now buf)) × (allHex (now line) ≡ true) ⌝ }
+    ensures { λ _. ⌜ now (buf .exit) ≡ unhex (now (line .entry)) ++ drop n (now (buf .entry)) ⌝ }
+{
+    let mut i = 0;
+    while i < n {
+        buf[i] = digit_value(line[2 * i]) * 16 + digit_value(line[2 * i + 1]);
+        i += 1;
+    }
+}
+
+// The bytes of src from byte 0 of dst on, and how many they are.
+fn copy(src: &[u8], dst: &mut [u8]) -> usize
+    requires { ⌜ length (now src) ≤ length (now dst) ⌝ }
+    ensures { λ r. ⌜ Filled (now (src .entry)) (now (dst .entry)) (now (dst .exit)) r ⌝ }
+{
+    let mut i = 0;
+    while i < src.len() {
+        dst[i] = src[i];
+        i += 1;
+    }
+    i
+}
+
+// Writes the frame that a line is from byte 0 on and returns its length. Where the line is no frame, or the buffer has under 352 bytes, it returns 0 and
+// leaves the buffer as it was.
+#[no_mangle]
+pub extern "C" fn read_frame(line: &[u8], frame: &mut [u8]) -> usize
+    ensures { λ r. ⌜ Filled (readFrame (now (line .entry)) (length (now (frame .entry)))) (now (frame .entry)) (now (frame .exit)) r ⌝ }
+{
+    if frame.len() < 352 {
+        return 0;
+    }
+    if line.len() % 2 != 0 {
+        return 0;
+    }
+    let n = line.len() / 2;
+    if 352 < n {
+        return 0;
+    }
+    if !all_hex(line) {
+        return 0;
+    }
+    let mut buf = [0u8; 352];
+    decode(line, n, &mut buf);
+    if !well_formed(&buf[..n]) {
+        return 0;
+    }
+    copy(&buf[..n], frame)
+}
