@@ -1,0 +1,4 @@
+pub mod Joins
+pub mod Banks
+pub mod Days
+pub mod Lift

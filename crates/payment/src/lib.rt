@@ -1,0 +1,162 @@
+// Payments: the checks in their order, and what is booked at both sides.
+ghost use mathlib.Core.Path.{_≡_};
+ghost use mathlib.Core.Bool.{cond, _&&_};
+ghost use Prim.Native.Nat.{_+_, _≤_, _<_, _^_};
+ghost use lib.ListN.{length, take};
+ghost use Rattle.rules.specs.Account as Rule;
+ghost use Rattle.rules.specs.Command as Command;
+ghost use Rattle.rules.specs.Invariant.{Sized};
+ghost use Rattle.rules.specs.Machine.{firstFailure};
+ghost use Rattle.rules.specs.Payment as Payment;
+ghost use Rattle.account.specs.View.{toAccount, turnoverOf};
+ghost use Rattle.table.specs.Promise.{Good, Called};
+ghost use Rattle.table.specs.View.{placeOf};
+ghost use Rattle.payment.specs.Parts.{bankPlace, earlyChecks, partyChecks, share};
+use account::Account;
+use account::Owner;
+use account::amount_of;
+use account::covers;
+use account::has_room;
+use account::in_turnover;
+use account::is_bank;
+use account::out_turnover;
+use account::raised;
+use account::under_cap;
+use amount::is_amount;
+use rules::first;
+use rules::is_code;
+use table::Outcome;
+use table::Table;
+use table::place;
+
+// ---- where the parties stand
+
+// Of two codes the one in a credit, the other in a debit.
+fn code_of(credit: bool, in_credit: u32, in_debit: u32) -> u32
+    ensures { λ r. ⌜ r ≡ cond credit «in_credit» «in_debit» ⌝ }
+{
+    if credit { in_credit } else { in_debit }
+}
+
+// The place of that code among the first n.
+fn party_place(codes: &[u32; 64], n: usize, credit: bool, in_credit: u32, in_debit: u32) -> usize
+    requires { ⌜ (n ≤ 64) × (length (now codes) ≡ 64) ⌝ }
+    ensures { λ r. ⌜ r ≡ placeOf (cond credit «in_credit» «in_debit») (take n (now (codes .entry))) ⌝ }
+{
+    place(codes, n, code_of(credit, in_credit, in_debit))
+}
+
+// The place of the bank of the party at place i with the account x.
+fn bank_place(codes: &[u32; 64], n: usize, i: usize, x: Account) -> usize
+    requires { ⌜ (n ≤ 64) × (length (now codes) ≡ 64) ⌝ }
+    ensures { λ r. ⌜ r ≡ bankPlace ((toAccount x) .owner) i (take n (now (codes .entry))) ⌝ }
+{
+    let owner = x.owner;
+    match owner {
+        Owner::Bank => i,
+        Owner::Branch(b) => place(codes, n, b),
+    }
+}
+
+// ---- the checks
+
+// The first four, which look at no account: `known` says that both parties are in the table.
+fn early(way: u8, sender: u32, receiver: u32, amount: i64, known: bool) -> u64
+    ensures { λ r. ⌜ r ≡ firstFailure (earlyChecks way sender receiver amount known) ⌝ }
+{
+    let formed = (way <= 1) & is_code(sender) & is_code(receiver);
+    let same = sender == receiver;
+    first(
+        formed,
+        1,
+        first(known, 4, first(!same, 7, first(is_amount(amount), 6, 0))),
+    )
+}
+
+// Room at one side: on the party's account x and on its bank's, b.
+fn side_room(x: Account, b: Account, turnover: usize, n: u64) -> bool
+    requires { ⌜ (Sized (toAccount x)) × (Sized (toAccount b)) × (turnover < 4) × (n ≤ 10 ^ 15) ⌝ }
+    ensures { λ r. ⌜ r ≡ (Payment.hasRoom (turnoverOf turnover) n (toAccount b) && Payment.hasRoom (turnoverOf turnover) n (toAccount x)) ⌝ }
+{
+    has_room(b, turnover, n) & has_room(x, turnover, n)
+}
+
+// The others, of the payer x and its bank b, the payee y and its bank d.
+fn late(credit: bool, n: u64, x: Account, b: Account, y: Account, d: Account) -> u64
+    requires { ⌜ (Sized (toAccount x)) × (Sized (toAccount b)) × (Sized (toAccount y)) × (Sized (toAccount d)) × (n ≤ 10 ^ 15) ⌝ }
+    ensures { λ r. ⌜ r ≡ firstFailure (partyChecks credit n (toAccount x) (toAccount b) (toAccount y) (toAccount d)) ⌝ }
+{
+    let bank = is_bank(x);
+    let c9 = covers(b, n);
+    let c10 = !credit | under_cap(b, n);
+    let c11 = bank | covers(x, n);
+    let c12 = !credit | (bank | under_cap(x, n));
+    let out = side_room(x, b, out_turnover(credit), n);
+    let into = side_room(y, d, in_turnover(credit), n);
+    first(
+        c9,
+        9,
+        first(
+            c10,
+            10,
+            first(c11, 11, first(c12, 12, first(out & into, 8, 0))),
+        ),
+    )
+}
+
+// ---- booking
+
+// What a payment of n adds to a party's own account once its bank's has its part: nothing to a bank.
+fn own_share(x: Account, n: u64) -> u64
+    ensures { λ r. ⌜ r ≡ share (toAccount x) n ⌝ }
+{
+    if is_bank(x) { 0 } else { n }
+}
+
+// A party's own account with its share.
+fn own_raised(x: Account, turnover: usize, n: u64) -> Account
+    requires { ⌜ (turnover < 4) × (Rule.turnover (turnoverOf turnover) ((toAccount x) .turnovers) + n < 2 ^ 64) ⌝ }
+    ensures { λ r. ⌜ toAccount r ≡ Payment.raised (turnoverOf turnover) (share (toAccount x) n) (toAccount x) ⌝ }
+{
+    raised(x, turnover, own_share(x, n))
+}
+
+// Each account is read again before it is stored: two of the four may be one, as where both parties have one bank.
+pub fn pay(mut t: Table, way: u8, sender: u32, receiver: u32, amount: i64) -> Outcome
+    requires { ⌜ Good t ⌝ }
+    ensures { λ r. ⌜ Called (Command.Payment way sender receiver amount) t r ⌝ }
+{
+    let m = t.count;
+    let credit = way == 0;
+    let i = party_place(&t.codes, m, credit, sender, receiver);
+    let j = party_place(&t.codes, m, credit, receiver, sender);
+    let e = early(way, sender, receiver, amount, (i < m) & (j < m));
+    if e != 0 {
+        return Outcome {
+            answer: e,
+            table: t,
+        };
+    }
+    let n = amount_of(amount);
+    let x = t.accounts[i];
+    let y = t.accounts[j];
+    let k = bank_place(&t.codes, m, i, x);
+    let l = bank_place(&t.codes, m, j, y);
+    let a = late(credit, n, x, t.accounts[k], y, t.accounts[l]);
+    if a != 0 {
+        return Outcome {
+            answer: a,
+            table: t,
+        };
+    }
+    let out = out_turnover(credit);
+    let into = in_turnover(credit);
+    t.accounts[k] = raised(t.accounts[k], out, n);
+    t.accounts[i] = own_raised(t.accounts[i], out, n);
+    t.accounts[l] = raised(t.accounts[l], into, n);
+    t.accounts[j] = own_raised(t.accounts[j], into, n);
+    Outcome {
+        answer: 0,
+        table: t,
+    }
+}

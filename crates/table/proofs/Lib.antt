@@ -1,0 +1,4 @@
+pub mod Places
+pub mod Called
+pub mod Stored
+pub mod Found

@@ -1,0 +1,29 @@
+-- What a table is, and what every call on it promises. Assumes nothing.
+use mathlib.Core.Path.{_≡_}
+use Prim.Native.Nat.{_≤_}
+use lib.ListN.{take}
+use Rattle.rules.specs.Account.{codes}
+use Rattle.rules.specs.Command.{Command, Call}
+use Rattle.rules.specs.Machine.{answer, next}
+use Rattle.rules.specs.Invariant.{Invariant}
+use Rattle.table.specs.declared.Table.{Table}
+use Rattle.table.specs.declared.Outcome.{Outcome}
+use Rattle.table.specs.View.{machineOf, accountsOf}
+
+-- what `fresh` gives and every call gives back
+pub record Good (t : Table) : Type 0 where
+  pub within : t .count ≤ 64
+  -- the codes beside the accounts are the accounts' own
+  pub same : take (t .count) (t .codes) ≡ codes (accountsOf t)
+  pub inv : Invariant (machineOf t)
+
+-- a command that lends no report buffer
+unfoldable pub call : Command → Call
+call k = record { command = k; room = 0 }
+
+-- the answer is the history machine's, the table afterwards is its next, a refusal gives back the very same table
+pub record Called (k : Command) (t : Table) (r : Outcome) : Type 0 where
+  pub says : r .answer ≡ answer (machineOf t) (call k)
+  pub moves : machineOf (r .table) ≡ next (machineOf t) (call k)
+  pub refused : ¬ (r .answer ≡ 0) → r .table ≡ t
+  pub good : Good (r .table)

@@ -1,0 +1,69 @@
+// The table of accounts, in the order of opening, and what every call on it needs.
+ghost use mathlib.Core.Path.{_≡_};
+ghost use Prim.Native.Nat.{_≤_};
+ghost use lib.ListN.{length, take};
+ghost use Rattle.rules.specs.Account as Rule;
+ghost use Rattle.rules.specs.Machine as Machine;
+ghost use Rattle.table.specs.View.{accountsOf, machineOf, placeOf};
+ghost use Rattle.table.specs.Promise.{Good};
+use account::Account;
+use account::Owner;
+use account::held;
+use account::opened;
+
+// The codes stand beside the accounts, so that a look-up runs over lent numbers.
+pub struct Table {
+    pub codes: [u32; 64],
+    pub accounts: [Account; 64],
+    pub count: usize,
+    pub day: u32,
+}
+
+// What a call answers, and the table afterwards.
+pub struct Outcome {
+    pub answer: u64,
+    pub table: Table,
+}
+
+pub fn fresh() -> Table
+    ensures { λ r. ⌜ (Good r) × (machineOf r ≡ Machine.empty) ⌝ }
+{
+    let a = opened(0, Owner::Bank, 0, 0);
+    Table {
+        codes: [0; 64],
+        accounts: [a; 64],
+        count: 0,
+        day: 0,
+    }
+}
+
+// The place of a code among the first n, or n.
+pub fn place(all: &[u32; 64], n: usize, code: u32) -> usize
+    requires { ⌜ (n ≤ 64) × (length (now all) ≡ 64) ⌝ }
+    ensures { λ r. ⌜ r ≡ placeOf code (take n (now (all .entry))) ⌝ }
+{
+    let mut i: usize = 0;
+    while i < n {
+        if all[i] == code {
+            return i;
+        }
+        i += 1;
+    }
+    n
+}
+
+// What bank accounts hold together.
+pub fn total(t: Table) -> i64
+    requires { ⌜ Good t ⌝ }
+    ensures { λ r. ⌜ r ≡ Rule.total Rule.held (accountsOf t) ⌝ }
+{
+    let mut sum: i64 = 0;
+    let mut i = t.count;
+    while i > 0 {
+        i -= 1;
+        let x = t.accounts[i];
+        let h = held(x);
+        sum = h + sum;
+    }
+    sum
+}
