@@ -6,7 +6,7 @@ use mathlib.Core.Option.{Option, none, some}
 use Prim.Native.Nat.{ℕ, _≤_, _<_}
 use lib.ListN.{length, take, getD}
 use lib.IntN.{ℤ, natAbs}
-use lib.Dec.{T, ltb, ltb→lt}
+use lib.Dec.{T, ltb}
 use Rattle.amount.specs.Amount.{isAmount}
 use Rattle.rules.specs.Account as Rule
 use Rattle.rules.specs.Account.{codes, known, at}
@@ -23,8 +23,7 @@ use Rattle.table.specs.declared.Table.{Table}
 use Rattle.table.specs.Promise.{Good, call}
 use Rattle.table.specs.View.{accountsOf, machineOf, placeOf}
 use Rattle.table.proofs.Called.{sized-at}
-use Rattle.table.proofs.Places.{known-place, accounts-length}
-use Rattle.table.proofs.Stored.{stored-none, stored-at}
+use Rattle.table.proofs.Found.{place-is, place-known, known-in, account-at}
 use Rattle.payment.specs.Parts.{bankPlace, earlyChecks, partyChecks}
 
 -- the party with the code c stands at i, its bank at k
@@ -53,15 +52,8 @@ bank-found none c i cs e = e
 bank-found (some b) c i cs e = refl
 
 module _ (t : Table) (g : Good t) (long : length (t .accounts) ≡ 64) where
-  place-known : (c i : ℕ) → i ≡ placeOf c (take (t .count) (t .codes)) → ltb i (t .count) ≡ known c (accountsOf t)
-  place-known c i e =
-      ap₂ ltb (e ∙ ap (placeOf c) (g .same)) (sym (accounts-length t (g .within) long)) ∙ sym (known-place c (accountsOf t))
-
   pub known-below : (c i : ℕ) → i ≡ placeOf c (take (t .count) (t .codes)) → T (known c (accountsOf t)) → i < t .count
-  known-below c i e k = ltb→lt i (t .count) (subst T (sym (place-known c i e)) k)
-
-  account-at : (c i : ℕ) (d : Account) → i ≡ placeOf c (codes (accountsOf t)) → i < t .count → toAccount (getD (t .accounts) i d) ≡ at c (accountsOf t)
-  account-at c i d e h = stored-at t g (stored-none t g long) c i d e h
+  known-below c i e k = known-in t g long c i (place-is t g c i e) k
 
   pub party : (c i k : ℕ) (d : Account) → i ≡ placeOf c (take (t .count) (t .codes)) → T (known c (accountsOf t))
       → k ≡ bankPlace ((toAccount (getD (t .accounts) i d)) .owner) i (take (t .count) (t .codes)) → Party t c i k
@@ -75,20 +67,20 @@ module _ (t : Table) (g : Good t) (long : length (t .accounts) ≡ 64) where
   }
     where
       here : i ≡ placeOf c (codes (accountsOf t))
-      here = e ∙ ap (placeOf c) (g .same)
+      here = place-is t g c i e
 
       under : i < t .count
       under = known-below c i e h
 
       found : k ≡ placeOf (bankOf c (accountsOf t)) (take (t .count) (t .codes))
-      found = f ∙ bank-found _ c i (take (t .count) (t .codes)) e ∙ ap (λ (x : Rule.Account). placeOf (bankOr (x .owner) c) (take (t .count) (t .codes))) (account-at c i d here under)
+      found = f ∙ bank-found _ c i (take (t .count) (t .codes)) e ∙ ap (λ (x : Rule.Account). placeOf (bankOr (x .owner) c) (take (t .count) (t .codes))) (account-at t g long c i d here under)
 
   module _ {c i k : ℕ} (p : Party t c i k) (d : Account) where
     own-at : toAccount (getD (t .accounts) i d) ≡ at c (accountsOf t)
-    own-at = account-at c i d (p .place) (p .below)
+    own-at = account-at t g long c i d (p .place) (p .below)
 
     bank-at : toAccount (getD (t .accounts) k d) ≡ at (bankOf c (accountsOf t)) (accountsOf t)
-    bank-at = account-at (bankOf c (accountsOf t)) k d (p .bank-place) (p .bank-below)
+    bank-at = account-at t g long (bankOf c (accountsOf t)) k d (p .bank-place) (p .bank-below)
 
     pub own-sized : Sized (toAccount (getD (t .accounts) i d))
     own-sized = subst Sized (sym own-at) (sized-at t g c)
@@ -103,7 +95,7 @@ module _ (t : Table) (g : Good t) (long : length (t .accounts) ≡ 64) where
     first-four =
         q .first-answer
         ∙ ap (λ b. firstFailure (earlyChecks w s r a b))
-        (ap₂ (λ x y. x && y) (place-known _ i (q .payer-place)) (place-known _ j (q .payee-place)) ∙ both-known (isCredit w) s r (accountsOf t))
+        (ap₂ (λ x y. x && y) (place-known t g long _ i (q .payer-place)) (place-known t g long _ j (q .payee-place)) ∙ both-known (isCredit w) s r (accountsOf t))
 
     pub early-answer : ¬ (e ≡ 0) → e ≡ answer (machineOf t) (call (Payment w s r a))
     unfolding answer call

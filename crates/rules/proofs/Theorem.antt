@@ -14,12 +14,11 @@ use Rattle.amount.proofs.Integer.{difference-add, difference-up, difference-dow
 use Rattle.octets.specs.Octets.{isBytes}
 use Rattle.rules.specs.Account.{Value, Account, balance, state, held, isNone, isBank, noTurnovers, withLimits, opened, codes, blank, at, total}
 use Rattle.rules.specs.Command.{Header, Command, Bank, Branch, Funding, Withdrawal, BankLimits, Payment, Change, Deletion, Query, Opening, Call, every, isCode, isMethod, isDay, isCount, isHeader, isItem, wellFormed}
-use Rattle.rules.specs.Figures.{table}
 use Rattle.rules.specs.History.{Event, Funds, Withdraws, Nothing, event, events, funds, withdraws, sumOf, bring, drain, count, brought, taken}
 use Rattle.rules.specs.Invariant.{All, Limited, Fit, Book, Invariant}
 use Rattle.rules.specs.Machine.{Machine, empty, withAccounts, withId, hasBookPlace, checks, effect, firstFailure, answer, ifAccepted, next, outcome, run, outcomes}
 use Rattle.rules.specs.Message.{named, isMessageId, inBook, isBranchOf, limitChecks, touch, cleared}
-use Rattle.rules.specs.Payment.{isCredit, payer, payee, paymentChecks, book}
+use Rattle.rules.specs.Payment.{isCredit, payer, payee, paymentChecks}
 use Rattle.rules.proofs.Bools.{and-l, and-r}
 use Rattle.rules.proofs.Bound.{less-bounded}
 use Rattle.rules.proofs.Branches.{Metered}

@@ -4,7 +4,7 @@ use Prim.Native.Nat.{ℕ, _+_}
 use lib.ListN.{replicate}
 use lib.IntN.{ℤ, pos, negℤ}
 use Rattle.rules.specs.Account.{Limit, Value, Closed, Account, state, at}
-use Rattle.rules.specs.Command.{Header, Item, Command, Bank, Branch, Funding, Payment, Change, Deletion, Opening, Call}
+use Rattle.rules.specs.Command.{Header, Item, Command, Bank, Branch, Funding, Payment, Change, Deletion, Opening}
 use Rattle.rules.specs.Report.{Line, ltkLine, lpoLine}
 use Rattle.rules.specs.Machine.{Machine, empty, answer, run}
 

@@ -7,7 +7,7 @@ use native.Mathlib.Omega.{arith}
 use native.Mathlib.Numerals.{add-one}
 use lib.ListN.{length, take, drop, getD, set, length-map}
 use lib.Dec.{ltb, eqb}
-use lib.Seq.{length-take-le, take-set-lt, take-suc-set}
+use lib.Seq.{length-take-le, take-suc-set}
 use borrow.Author.Tests.{eq-eqb, ne-eqb, lt-ltb, le-ltb, ltb-true, ltb-false}
 use Rattle.rules.specs.Account as Rule
 use Rattle.account.specs.declared.Account.{Account}
@@ -50,10 +50,6 @@ adjust-place c f (x ∷ xs) =
     elim (eqb (x .code) c) as (λ b. cond b (f x ∷ xs) (x ∷ adjust c f xs) ≡ set (x ∷ xs) (cond b 0 (suc (placeOf c (codes xs)))) (f (cond b x (at c xs))))
     [ true ↦ refl | false ↦ ap (λ l. x ∷ l) (adjust-place c f xs) ]
 
--- an account changed is an account put in its place
-pub adjust-at : (c : ℕ) (f : Rule.Account → Rule.Account) (xs : List Rule.Account) → adjust c f xs ≡ adjust c (λ y. f (at c xs)) xs
-adjust-at c f xs = adjust-place c f xs ∙ sym (adjust-place c (λ y. f (at c xs)) xs)
-
 -- ---- the table's list
 
 pub map-getD : {X Y : Type 0} (f : X → Y) (l : List X) (i : ℕ) (d : X) (e : Y) → i < length l → getD (map f l) i e ≡ f (getD l i d)
@@ -82,11 +78,6 @@ module _ (t : Table) (within : t .count ≤ 64) (long : length (t .accounts) ≡
   accounts-at i d e h =
       map-getD toAccount (take (t .count) (t .accounts)) i d e (omega (arith, length-take-le (t .count) (t .accounts) (omega arith)))
       ∙ ap toAccount (take-getD (t .count) (t .accounts) i d h)
-
--- an account put at a place below the count
-pub accounts-set : (t : Table) (i : ℕ) (x : Account) → i < t .count → map toAccount (take (t .count) (set (t .accounts) i x)) ≡ set (accountsOf t) i (toAccount x)
-unfolding accountsOf
-accounts-set t i x h = ap (map toAccount) (take-set-lt (t .count) (t .accounts) i x h) ∙ map-set toAccount (take (t .count) (t .accounts)) i x
 
 -- ---- a search by code
 
@@ -134,8 +125,3 @@ append-accounts t x h =
 
 pub append-codes : (l : List ℕ) (n c : ℕ) → n < length l → take (n + 1) (set l n c) ≡ take n l ++ (c ∷ [])
 append-codes l n c h = ap (λ m. take m (set l n c)) (add-one n) ∙ take-suc-set l n c h
-
--- ---- a party's account read, changed and put back
-
-pub adjust-with : (c : ℕ) (f : Rule.Account → Rule.Account) (xs : List Rule.Account) (x y : Rule.Account) → x ≡ at c xs → y ≡ f x → adjust c (λ z. y) xs ≡ adjust c f xs
-adjust-with c f xs x y e d = ap (λ w. adjust c (λ z. w) xs) (d ∙ ap f e) ∙ sym (adjust-at c f xs)

@@ -31,9 +31,18 @@ first-requires-4 c κs = search needs
 
 returns : tie.Need-returns
 unfolding earlyChecks firstFailure wellFormed
-returns c =
-    let s = c .before .before .before .before .before .before .before in
-    rw (fits-money (s .args .amount) (s .fits .amount), and-true) (cc (toZ-ofZ (s .fits .amount)))
+returns c = let s = c .before .before .before .before .before .before .before in rw (
+  fits-money (s .args .amount) (s .fits .amount),
+  and-true,
+  c .first4 .ensures,
+  c .before .first3 .ensures,
+  c .before .before .first2 .ensures,
+  c .before .before .before .first .ensures,
+  c .before .before .before .before .is-amount .ensures,
+  c .before .before .before .before .before .is-code2 .ensures,
+  c .before .before .before .before .before .before .is-code .ensures,
+  toZ-ofZ (s .fits .amount),
+)
 
 pub early-spec : {M : Type 1} → statement M
 early-spec =
