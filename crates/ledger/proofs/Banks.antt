@@ -10,6 +10,7 @@ use lib.Dec.{T, ltb, ltb→lt}
 use lib.IntN.{ℤ, pos, negsuc}
 use lib.Signed.{leZ, nonNeg}
 use lib.ListN.{length, take, drop, getD, set}
+use Rattle.amount.specs.Amount.{isLimit}
 use Rattle.octets.specs.Octets.{isMoney}
 use Rattle.octets.proofs.Numbers.{fits-money}
 use Rattle.rules.specs.Account as Rule
@@ -44,9 +45,13 @@ pub refuses : (b : Bool) (x y : ℕ) → cond (not b) x y ≡ cond b y x
 refuses true x y = refl
 refuses false x y = refl
 
-pub from-zero : (v : ℤ) → leZ (pos 0) v ≡ nonNeg v
+from-zero : (v : ℤ) → leZ (pos 0) v ≡ nonNeg v
 from-zero (pos n) = le-leb 0 n (omega arith)
 from-zero (negsuc n) = refl
+
+-- the ranges of a bank's limits l and p, as they are tested
+pub limits-tested : (l p y z : ℤ) (a b : Bool) → y ≡ l → z ≡ p → a ≡ isLimit y → b ≡ isLimit z → (leZ (pos 0) y && a && b) ≡ (nonNeg l && isLimit l && isLimit p)
+limits-tested l p y z a b ey ez ea eb = rw (ea, eb, ey, ez, from-zero l)
 
 -- an amount in an i64 is well-formed
 pub and-money : (b : Bool) (a : ℤ) → SFits w64 a → b ≡ (b && isMoney a)
@@ -77,12 +82,12 @@ module _ (t : Table) (g : Good t) (long : length (t .accounts) ≡ 64) where
           ap (λ x. cond (isBank x) rest 5) (account-at t g long c j d (q ∙ place-is t g c i e) (subst (λ n. n < t .count) (sym q) below))
       go false h = refl
 
-  pub screened : (k : Command) (c i j : ℕ) → i ≡ placeOf c (take (t .count) (t .codes)) → Slot i j → (d : Account) (formed inRange : Bool) → formed ≡ wellFormed k → Begins t k c inRange
-      → (a : ℕ) → a ≡ firstFailure (bankChecks formed (ltb i (t .count)) (isBank (toAccount (getD (t .accounts) j d))) inRange) → Screened t k c j inRange a
+  pub screened : (k : Command) (c i j : ℕ) → i ≡ placeOf c (take (t .count) (t .codes)) → Slot i j → (d : Account) (formed tested inRange : Bool) → formed ≡ wellFormed k → Begins t k c inRange
+      → (a : ℕ) → a ≡ firstFailure (bankChecks formed (ltb i (t .count)) (isBank (toAccount (getD (t .accounts) j d))) tested) → tested ≡ inRange → Screened t k c j inRange a
   unfolding answer call bankChecks firstFailure
-  screened k c i j e s d f r ef b a ea = record {
+  screened k c i j e s d f q r ef b a ea eq = record {
     declines = early 4 (checks (machineOf t) 0 k) a whole;
-    ranges = λ z. passed 6 (bankChecks f (ltb i (t .count)) own r) tt (sym ea ∙ z);
+    ranges = λ z. subst T eq (passed 6 (bankChecks f (ltb i (t .count)) own q) tt (sym ea ∙ z));
     place = λ z. same z ∙ place-is t g c i e;
     below = λ z. subst (λ n. n < t .count) (sym (same z)) (in-table z);
     rest = λ z. late 4 (checks (machineOf t) 0 k) (subst (λ cs. T (numbered cs)) (sym b) tt) (sym whole ∙ z);
@@ -92,13 +97,13 @@ module _ (t : Table) (g : Good t) (long : length (t .accounts) ≡ 64) where
       own = isBank (toAccount (getD (t .accounts) j d))
 
       in-table : a ≡ 0 → i < t .count
-      in-table z = ltb→lt i (t .count) (passed 4 (bankChecks f (ltb i (t .count)) own r) tt (sym ea ∙ z))
+      in-table z = ltb→lt i (t .count) (passed 4 (bankChecks f (ltb i (t .count)) own q) tt (sym ea ∙ z))
 
       same : a ≡ 0 → j ≡ i
       same z = slot-same i j s (in-table z)
 
       whole : a ≡ firstFailure (take 4 (checks (machineOf t) 0 k))
-      whole = ea ∙ ap₂ (λ f n. cond f n 1) ef (bank-named c i j e s d (cond r 0 6)) ∙ ap firstFailure (sym b)
+      whole = ea ∙ ap₂ (λ f n. cond f n 1) ef (bank-named c i j e s d (cond q 0 6)) ∙ ap (λ q. firstFailure (bankChecks (wellFormed k) (known c (accountsOf t)) (isBank (at c (accountsOf t))) q)) eq ∙ ap firstFailure (sym b)
 
   -- an account changed at its place, its turnovers as they were
   pub changed : (k : Command) (c j : ℕ) (d : Account) → j ≡ placeOf c (codes (accountsOf t)) → j < t .count → (f : Rule.Account → Rule.Account) → Tame f → ((x : Rule.Account) → (f x) .turnovers ≡ x .turnovers)

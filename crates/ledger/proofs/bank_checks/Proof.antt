@@ -25,7 +25,8 @@ first-requires-4 c κs = search needs
 
 returns : tie.Need-returns
 unfolding bankChecks firstFailure
-returns c = cc
+returns c =
+    rw (c .first4 .ensures, c .before .first3 .ensures, c .before .before .first2 .ensures, c .before .before .before .first .ensures, c .before .before .before .before .is-bank .ensures, c .before .before .before .before .before .is-code .ensures)
 
 pub bank-checks-spec : {M : Type 1} → statement M
 bank-checks-spec =

@@ -16,12 +16,15 @@ use Rattle.table.specs.Promise.{call}
 use Rattle.table.proofs.Called.{declined}
 use Rattle.table.proofs.Places.{length-mapped}
 use Rattle.ledger.specs.Parts.{bankChecks}
-use Rattle.ledger.proofs.Banks.{Screened, screened, changed, and-money, from-zero}
+use Rattle.ledger.proofs.Banks.{Screened, screened, changed, and-money, limits-tested}
 use Rattle.ledger.proofs.bank_limits.Statement.{statement}
 use Rattle.ledger.proofs.bank_limits.Tie as tie
 
 long : (s : tie.Start) → length (s .args .t1 .accounts) ≡ 64
 long s = search (needs, length-mapped)
+
+abbrev entry : tie.After-bank-checks → tie.Start
+entry c = c .before .before .before .before .before .before .before .before
 
 abbrev asked : tie.Start → Command
 asked s = BankLimits (s .args .code) (s .args .ltk) (s .args .lpo)
@@ -29,16 +32,15 @@ asked s = BankLimits (s .args .code) (s .args .ltk) (s .args .lpo)
 abbrev inRange : tie.Start → Bool
 inRange s = nonNeg (s .args .ltk) && isLimit (s .args .ltk) && isLimit (s .args .lpo)
 
-checked : (c : tie.After-bank-checks)
-    → Screened (c .before .before .before .before .before .before .before .before .args .t1) (asked (c .before .before .before .before .before .before .before .before)) (c .before .before .before .before .before .before .before .before .args .code) (c .before .before .before .before .slot .result) (inRange (c .before .before .before .before .before .before .before .before)) (c .bank-checks .result)
+checked : (c : tie.After-bank-checks) → Screened (entry c .args .t1) (asked (entry c)) (entry c .args .code) (c .before .before .before .before .slot .result) (inRange (entry c)) (c .bank-checks .result)
 unfolding checks bankChecks machineOf wellFormed
 checked c =
-    let s = c .before .before .before .before .before .before .before .before in
+    let s = entry c in
     let p = c .before .before .before .before .before .place in
     let j = c .before .before .before .before .slot in
-    screened (s .args .t1) (s .pre) (long s) (asked s) (s .args .code) (p .result) (j .result) (p .ensures) (j .ensures) _ (isCode (s .args .code)) (inRange s)
-    (and-money (isCode (s .args .code)) (s .args .ltk) (s .fits .ltk) ∙ and-money _ (s .args .lpo) (s .fits .lpo)) refl (c .bank-checks .result)
-    (rw (c .before .is-limit2 .ensures, c .before .before .is-limit .ensures, toZ-ofZ (s .fits .ltk), toZ-ofZ (s .fits .lpo), from-zero (s .args .ltk)) at (c .bank-checks .ensures))
+    screened (s .args .t1) (s .pre) (long s) (asked s) (s .args .code) (p .result) (j .result) (p .ensures) (j .ensures) _ (isCode (s .args .code)) _ (inRange s)
+    (and-money (isCode (s .args .code)) (s .args .ltk) (s .fits .ltk) ∙ and-money _ (s .args .lpo) (s .fits .lpo)) refl (c .bank-checks .result) (c .bank-checks .ensures)
+    (limits-tested (s .args .ltk) (s .args .lpo) _ _ (c .before .before .is-limit .result) (c .before .is-limit2 .result) (toZ-ofZ (s .fits .ltk)) (toZ-ofZ (s .fits .lpo)) (c .before .before .is-limit .ensures) (c .before .is-limit2 .ensures))
 
 place-requires : tie.Need-place-requires
 place-requires c κs = search needs

@@ -24,26 +24,28 @@ use Rattle.ledger.proofs.withdraw.Tie as tie
 long : (s : tie.Start) → length (s .args .t1 .accounts) ≡ 64
 long s = search (needs, length-mapped)
 
+abbrev entry : tie.After-bank-checks → tie.Start
+entry c = c .before .before .before .before .before .before .before
+
 abbrev asked : tie.Start → Command
 asked s = Withdrawal (s .args .code) (s .args .amount)
 
 -- the first checks
-checked : (c : tie.After-bank-checks)
-    → Screened (c .before .before .before .before .before .before .before .args .t1) (asked (c .before .before .before .before .before .before .before)) (c .before .before .before .before .before .before .before .args .code) (c .before .before .before .slot .result) (isAmount (c .before .before .before .before .before .before .before .args .amount)) (c .bank-checks .result)
+checked : (c : tie.After-bank-checks) → Screened (entry c .args .t1) (asked (entry c)) (entry c .args .code) (c .before .before .before .slot .result) (isAmount (entry c .args .amount)) (c .bank-checks .result)
 unfolding checks bankChecks machineOf wellFormed
 checked c =
-    let s = c .before .before .before .before .before .before .before in
+    let s = entry c in
     let p = c .before .before .before .before .place in
     let j = c .before .before .before .slot in
-    screened (s .args .t1) (s .pre) (long s) (asked s) (s .args .code) (p .result) (j .result) (p .ensures) (j .ensures) _ (isCode (s .args .code)) (isAmount (s .args .amount))
-    (and-money (isCode (s .args .code)) (s .args .amount) (s .fits .amount)) refl (c .bank-checks .result)
-    (rw (c .before .is-amount .ensures, toZ-ofZ (s .fits .amount)) at (c .bank-checks .ensures))
+    screened (s .args .t1) (s .pre) (long s) (asked s) (s .args .code) (p .result) (j .result) (p .ensures) (j .ensures) _ (isCode (s .args .code)) (c .before .is-amount .result) (isAmount (s .args .amount))
+    (and-money (isCode (s .args .code)) (s .args .amount) (s .fits .amount)) refl (c .bank-checks .result) (c .bank-checks .ensures)
+    (rw (toZ-ofZ (s .fits .amount)) at (c .before .is-amount .ensures))
 
 -- what is booked
-sum : (c : tie.After-amount-of) → c .amount-of .result ≡ natAbs (c .before .before .before .before .before .before .before .before .before .args .amount)
-sum c = rw (toZ-ofZ (c .before .before .before .before .before .before .before .before .before .fits .amount)) at (c .amount-of .ensures .0)
+sum : (c : tie.After-amount-of) → c .amount-of .result ≡ natAbs (entry (c .before .before) .args .amount)
+sum c = rw (toZ-ofZ (entry (c .before .before) .fits .amount)) at (c .amount-of .ensures .0)
 
-answered : (c : tie.After-covers) → cond (not (c .covers .result)) 9 0 ≡ answer (machineOf (c .before .before .before .before .before .before .before .before .before .before .args .t1)) (call (asked (c .before .before .before .before .before .before .before .before .before .before)))
+answered : (c : tie.After-covers) → cond (not (c .covers .result)) 9 0 ≡ answer (machineOf (entry (c .before .before .before) .args .t1)) (call (asked (entry (c .before .before .before))))
 unfolding checks firstFailure machineOf
 answered c =
     let s = c .before .before .before .before .before .before .before .before .before .before in
