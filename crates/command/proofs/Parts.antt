@@ -37,17 +37,17 @@ part-part i m j k l h =
     ∙ take-take k (m - j) (drop j (drop i l)) (omega arith)
     ∙ ap (take k) (drop-drop j i l)
 
--- six digits by their places
-pub decimal-six : (b : List ℕ) (i : ℕ) → i + 6 ≤ length b → decimal 0 (part i 6 b)
-    ≡ (((((getD b i 0 - 48) * 10 + (getD b (i + 1) 0 - 48)) * 10 + (getD b (i + 2) 0 - 48)) * 10 + (getD b (i + 3) 0 - 48)) * 10
-    + (getD b (i + 4) 0 - 48)) * 10 + (getD b (i + 5) 0 - 48)
+-- six digits by their values
+pub decimal-six : (b : List ℕ) (i : ℕ) → i + 6 ≤ length b → (p q s t u v : ℕ)
+    → p ≡ getD b i 0 - 48 → q ≡ getD b (i + 1) 0 - 48 → s ≡ getD b (i + 2) 0 - 48 → t ≡ getD b (i + 3) 0 - 48 → u ≡ getD b (i + 4) 0 - 48 → v ≡ getD b (i + 5) 0 - 48
+    → ((((p * 10 + q) * 10 + s) * 10 + t) * 10 + u) * 10 + v ≡ decimal 0 (part i 6 b)
 unfolding decimal
-decimal-six b i h =
+decimal-six b i h p q s t u v ep eq es et eu ev =
     let e2 : i + 1 + 1 ≡ i + 2 = omega arith in
     let e3 : i + 1 + 1 + 1 ≡ i + 3 = omega arith in
     let e4 : i + 1 + 1 + 1 + 1 ≡ i + 4 = omega arith in
     let e5 : i + 1 + 1 + 1 + 1 + 1 ≡ i + 5 = omega arith in
-    ap (decimal 0) (part-places 6 b i h) ∙ rw (e5, e4, e3, e2, zero-add (getD b i 0 - 48))
+    rw (ep, eq, es, et, eu, ev) (sym (ap (decimal 0) (part-places 6 b i h) ∙ rw (e5, e4, e3, e2, zero-add (getD b i 0 - 48))))
 
 -- ---- writing
 

@@ -1,4 +1,3 @@
-use native.Mathlib.Omega.{arith}
 use Rattle.command.proofs.Parts.{decimal-six}
 use borrow.Author.Needs.{needs}
 use Rattle.command.proofs.code_at.Statement.{statement}
@@ -87,8 +86,10 @@ add-result-5 c = search needs
 
 returns : tie.Need-returns
 returns c =
-    let a = c .before .before .before .before .before .before .before .before .before .before .before .before .before in
-    omega (arith, decimal-six (a .args .b .now) (a .args .i) (a .pre))
+    let d = c .before .before .before .before .before .before .before .before .before .before in
+    let a = d .before .before .before in
+    decimal-six (a .args .b .now) (a .args .i) (a .pre) _ _ _ _ _ _ (d .digit .ensures .0) (c .before .before .before .before .before .before .before .before .digit2 .ensures .0)
+    (c .before .before .before .before .before .before .digit3 .ensures .0) (c .before .before .before .before .digit4 .ensures .0) (c .before .before .digit5 .ensures .0) (c .digit6 .ensures .0)
 
 pub code-at-spec : {M : Type 1} → statement M
 code-at-spec =
