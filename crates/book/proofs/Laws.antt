@@ -16,7 +16,7 @@ use Rattle.rules.specs.Command.{some?}
 use Rattle.rules.specs.Invariant.{All, Before, InOrder}
 use Rattle.rules.specs.Message.{sameBytes, Entry, inBook, keepFrom}
 use Rattle.rules.proofs.Lists.{all-imp, all-join}
-use Rattle.book.specs.Entries.{entriesOf, freed, Lengths, Added, FirstFrom, Dropped}
+use Rattle.book.specs.Entries.{entriesOf, Lengths, Added, FirstFrom, Dropped}
 
 -- ---- parts of a list and what is written over it
 
@@ -249,7 +249,3 @@ dropped ids days n d ids′ days′ k r few long o first e f g =
       days-are = rw m g;
       lengths = record { ids-long = rw (f, write-length ids 0 (part (k * 32) (r * 32) ids)) (long .ids-long); days-long = rw (g, write-length days 0 (part k r days)) (long .days-long) };
     }
-
-pub freed-is : {ids days : List ℕ} {n d : ℕ} {ids′ days′ : List ℕ} {r : ℕ} → Dropped ids days n d ids′ days′ r → freed d ids days n ≡ n - r
-unfolding freed
-freed-is {n = n} {ids′ = ids′} {days′ = days′} {r = r} h = ap (λ (k : ℕ). n - k) (ap length (sym (h .entries)) ∙ entries-length ids′ days′ r)
