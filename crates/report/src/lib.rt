@@ -15,9 +15,9 @@ ghost use Rattle.account.specs.View.{toAccount, toLimit};
 ghost use Rattle.report.specs.Lines.{toLine};
 use account::Account;
 use account::Limit;
-use account::state_of;
 use amount::percent;
 use amount::size;
+use holding::state_of;
 use octets::put_i64;
 use octets::put_u16;
 

@@ -8,8 +8,8 @@ ghost use Rattle.table.specs.View.{accountsOf, machineOf, placeOf};
 ghost use Rattle.table.specs.Promise.{Good};
 use account::Account;
 use account::Owner;
-use account::held;
 use account::opened;
+use holding::held;
 
 // The codes stand beside the accounts, so that a look-up runs over lent numbers.
 pub struct Table {

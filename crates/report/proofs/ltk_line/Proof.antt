@@ -1,6 +1,6 @@
 use mir.Facts.{toZ-ofZ}
 use Rattle.account.specs.View.{toLimit}
-use Rattle.account.proofs.Day.{limit-small}
+use Rattle.account.proofs.Laws.{limit-small}
 use Rattle.amount.proofs.Integer.{back}
 use Rattle.rules.specs.Report as Report
 use borrow.Author.Needs.{needs}
