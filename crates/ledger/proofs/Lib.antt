@@ -1,4 +1,2 @@
-pub mod Joins
 pub mod Banks
-pub mod Days
 pub mod Lift

@@ -15,8 +15,8 @@ fn filled() -> Table
     let mut t = table::fresh();
     let mut i: u32 = 0;
     while i < 64 {
-        let o = ledger::bank_open(t, 1000 + i);
-        let f = ledger::fund(o.table, 1000 + i, 1_000_000_000_000);
+        let o = joining::bank_open(t, 1000 + i);
+        let f = funds::fund(o.table, 1000 + i, 1_000_000_000_000);
         t = f.table;
         i += 1;
     }

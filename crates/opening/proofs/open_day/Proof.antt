@@ -7,9 +7,9 @@ use mathlib.Core.Bool.{cond}
 use Rattle.rules.specs.Command.{Opening}
 use Rattle.table.specs.Promise.{call}
 use Rattle.table.proofs.Called.{declined}
-use Rattle.ledger.proofs.Days.{day-answer, opened-called}
-use Rattle.ledger.proofs.open_day.Statement.{statement}
-use Rattle.ledger.proofs.open_day.Tie as tie
+use Rattle.opening.proofs.Days.{day-answer, opened-called}
+use Rattle.opening.proofs.open_day.Statement.{statement}
+use Rattle.opening.proofs.open_day.Tie as tie
 
 returns : tie.Need-returns
 returns c =

@@ -16,10 +16,10 @@ use Rattle.table.specs.Promise.{call}
 use Rattle.table.proofs.Called.{declined}
 use Rattle.table.proofs.Found.{account-at, account-sized}
 use Rattle.table.proofs.Places.{length-mapped}
 use Rattle.ledger.specs.Parts.{bankChecks}
 use Rattle.ledger.proofs.Banks.{Screened, screened, changed, refuses, and-money}
-use Rattle.ledger.proofs.withdraw.Statement.{statement}
-use Rattle.ledger.proofs.withdraw.Tie as tie
+use Rattle.funds.proofs.withdraw.Statement.{statement}
+use Rattle.funds.proofs.withdraw.Tie as tie
 
 long : (s : tie.Start) → length (s .args .t1 .accounts) ≡ 64
 long s = search (needs, length-mapped)

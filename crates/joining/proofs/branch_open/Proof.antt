@@ -11,9 +11,9 @@ use Rattle.table.specs.View.{accountsOf, machineOf}
 use Rattle.table.specs.Promise.{call}
 use Rattle.table.proofs.Called.{declined}
 use Rattle.table.proofs.Places.{length-mapped}
-use Rattle.ledger.proofs.Joins.{held-called, room, branch-answer}
-use Rattle.ledger.proofs.branch_open.Statement.{statement}
-use Rattle.ledger.proofs.branch_open.Tie as tie
+use Rattle.joining.proofs.Joins.{held-called, room, branch-answer}
+use Rattle.joining.proofs.branch_open.Statement.{statement}
+use Rattle.joining.proofs.branch_open.Tie as tie
 
 long : (s : tie.Start) → length (s .args .t1 .accounts) ≡ 64
 long s = search (needs, length-mapped)

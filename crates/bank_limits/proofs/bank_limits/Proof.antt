@@ -15,10 +15,10 @@ use Rattle.table.specs.View.{machineOf}
 use Rattle.table.specs.Promise.{call}
 use Rattle.table.proofs.Called.{declined}
 use Rattle.table.proofs.Places.{length-mapped}
 use Rattle.ledger.specs.Parts.{bankChecks}
 use Rattle.ledger.proofs.Banks.{Screened, screened, changed, and-money, limits-tested}
-use Rattle.ledger.proofs.bank_limits.Statement.{statement}
-use Rattle.ledger.proofs.bank_limits.Tie as tie
+use Rattle.bank_limits.proofs.bank_limits.Statement.{statement}
+use Rattle.bank_limits.proofs.bank_limits.Tie as tie
 
 long : (s : tie.Start) → length (s .args .t1 .accounts) ≡ 64
 long s = search (needs, length-mapped)
