@@ -24,7 +24,8 @@ use Rattle.table.specs.Promise.{Good, call}
 use Rattle.table.specs.View.{accountsOf, machineOf, placeOf}
 use Rattle.table.proofs.Called.{sized-at}
 use Rattle.table.proofs.Found.{place-is, place-known, known-in, account-at}
-use Rattle.payment.specs.Parts.{bankPlace, earlyChecks, partyChecks}
+use Rattle.conditions.specs.Checks.{earlyChecks, partyChecks}
+use Rattle.payment.specs.Parts.{bankPlace}
 
 -- the party with the code c stands at i, its bank at k
 pub record Party (t : Table) (c i k : ℕ) : Type 0 where

@@ -4,9 +4,9 @@ use borrow.Author.Needs.{needs}
 use Rattle.octets.proofs.Numbers.{fits-money}
 use Rattle.rules.specs.Command.{wellFormed}
 use Rattle.rules.specs.Machine.{firstFailure}
-use Rattle.payment.specs.Parts.{earlyChecks}
-use Rattle.payment.proofs.early.Statement.{statement}
-use Rattle.payment.proofs.early.Tie as tie
+use Rattle.conditions.specs.Checks.{earlyChecks}
+use Rattle.conditions.proofs.early.Statement.{statement}
+use Rattle.conditions.proofs.early.Tie as tie
 
 is-code-requires : tie.Need-is-code-requires
 is-code-requires c κs = search needs

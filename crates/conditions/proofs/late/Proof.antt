@@ -1,35 +1,35 @@
 use borrow.Author.Needs.{needs}
 use Rattle.rules.specs.Machine.{firstFailure}
-use Rattle.payment.specs.Parts.{partyChecks}
-use Rattle.payment.proofs.late.Statement.{statement}
-use Rattle.payment.proofs.late.Tie as tie
+use Rattle.conditions.specs.Checks.{partyChecks}
+use Rattle.conditions.proofs.late.Statement.{statement}
+use Rattle.conditions.proofs.late.Tie as tie
 
 is-bank-requires : tie.Need-is-bank-requires
 is-bank-requires c κs = search needs
 
 covers-requires : tie.Need-covers-requires
-covers-requires c κs = search needs
+covers-requires c κs = let p = c .before .pre in (p .1, p .4)
 
 under-cap-requires : tie.Need-under-cap-requires
-under-cap-requires c κs = search needs
+under-cap-requires c κs = let p = c .before .before .pre in (p .1, p .4)
 
 covers-requires-2 : tie.Need-covers-requires-2
-covers-requires-2 c κs = search needs
+covers-requires-2 c κs = let p = c .before .before .before .pre in (p .0, p .4)
 
 under-cap-requires-2 : tie.Need-under-cap-requires-2
-under-cap-requires-2 c κs = search needs
+under-cap-requires-2 c κs = let p = c .before .before .before .before .pre in (p .0, p .4)
 
 out-turnover-requires : tie.Need-out-turnover-requires
 out-turnover-requires c κs = search needs
 
 side-room-requires : tie.Need-side-room-requires
-side-room-requires c κs = search needs
+side-room-requires c κs = let p = c .before .before .before .before .before .before .pre in (p .0, p .1, c .out-turnover .ensures .0, p .4)
 
 in-turnover-requires : tie.Need-in-turnover-requires
 in-turnover-requires c κs = search needs
 
 side-room-requires-2 : tie.Need-side-room-requires-2
-side-room-requires-2 c κs = search needs
+side-room-requires-2 c κs = let p = c .before .before .before .before .before .before .before .before .pre in (p .2, p .3, c .in-turnover .ensures .0, p .4)
 
 first-requires : tie.Need-first-requires
 first-requires c κs = search needs
