@@ -1,4 +1,4 @@
-/* Nomiluvar: the frame reader, for a shell written in C. Link with libframe.a. */
+/* Nomiluvar: the frame reader, for a shell written in C. Link with libreader.a. */
 #ifndef NOMILUVAR_FRAME_H
 #define NOMILUVAR_FRAME_H
 

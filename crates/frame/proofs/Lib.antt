@@ -4,4 +4,4 @@ pub mod Fields
 pub mod Commands
 pub mod Lines
 pub mod OneToOneProof
-pub mod Reader
+pub mod Layouts

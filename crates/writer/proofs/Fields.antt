@@ -26,7 +26,7 @@ use Rattle.frame.proofs.Rows.{bytes-are}
 use Rattle.frame.proofs.Fields.{narrow, field-bytes}
 use Rattle.frame.proofs.Commands.{in-range, kind-narrow}
 use Rattle.frame.proofs.OneToOneProof.{frame-formed}
-use Rattle.frame.proofs.Reader.{filled-none, frame-length}
+use Rattle.frame.proofs.Layouts.{filled-none, frame-length}
 
 -- ---- one field behind another
 

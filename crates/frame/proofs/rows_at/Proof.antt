@@ -1,5 +1,5 @@
 use native.Mathlib.Omega.{arith}
-use Rattle.frame.proofs.Reader.{rows-small}
+use Rattle.frame.proofs.Layouts.{rows-small}
 use borrow.Author.Needs.{needs}
 use Rattle.frame.proofs.rows_at.Statement.{statement}
 use Rattle.frame.proofs.rows_at.Tie as tie

@@ -3,7 +3,7 @@ use native.Mathlib.Omega.{arith}
 use Rattle.rules.specs.Command.{isMethod}
 use Rattle.frame.specs.Field.{size, rowSize, width, may, areFields}
 use Rattle.frame.specs.Frame.{kinds, fieldsOf, layout}
-use Rattle.frame.proofs.Reader.{kind, kind-three, kind-none, past-ten, from-three}
+use Rattle.frame.proofs.Layouts.{kind, kind-three, kind-none, past-ten, from-three}
 use borrow.Author.Needs.{needs}
 use Rattle.frame.proofs.well_formed.Statement.{statement}
 use Rattle.frame.proofs.well_formed.Tie as tie

@@ -3,10 +3,10 @@ use mathlib.Core.List.{List, _++_}
 use Prim.Native.Nat.{ℕ, _≤_, _-_, _*_, _+_, zero-le}
 use native.Mathlib.Omega.{arith}
 use lib.ListN.{length, getD, take, drop, set, length-set}
 use Rattle.frame.specs.Hex.{unhex}
-use Rattle.frame.proofs.Reader.{copy-more, hex-at, unhex-at, unhex-end, unhex-length}
-use Rattle.frame.proofs.decode.Statement.{statement}
-use Rattle.frame.proofs.decode.Tie as tie
+use Rattle.reader.proofs.Reader.{copy-more, hex-at, unhex-at, unhex-end, unhex-length}
+use Rattle.reader.proofs.decode.Statement.{statement}
+use Rattle.reader.proofs.decode.Tie as tie
 
 abbrev Inv-loop : tie.InvT-loop
 Inv-loop line n buf₀ i₀ buf i = (i ≤ n) × (buf ≡ take i (unhex line) ++ drop i buf₀) × (length buf ≡ length buf₀)

@@ -1,7 +1,7 @@
-use Rattle.frame.proofs.Reader.{nibble-bits}
+use Rattle.reader.proofs.Reader.{nibble-bits}
 use borrow.Author.Needs.{needs}
-use Rattle.frame.proofs.digit_value.Statement.{statement}
-use Rattle.frame.proofs.digit_value.Tie as tie
+use Rattle.reader.proofs.digit_value.Statement.{statement}
+use Rattle.reader.proofs.digit_value.Tie as tie
 
 mul-result : tie.Need-mul-result
 mul-result c = search needs

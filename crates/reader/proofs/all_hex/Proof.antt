@@ -4,10 +4,10 @@ use Prim.Native.Nat.{_≤_, _-_, _+_, zero-le}
 use native.Mathlib.Omega.{arith}
 use borrow.Author.Needs.{needs}
 use lib.ListN.{length, drop}
 use Rattle.frame.specs.Hex.{allHex}
-use Rattle.frame.proofs.Reader.{hex-more, hex-end}
-use Rattle.frame.proofs.all_hex.Statement.{statement}
-use Rattle.frame.proofs.all_hex.Tie as tie
+use Rattle.reader.proofs.Reader.{hex-more, hex-end}
+use Rattle.reader.proofs.all_hex.Statement.{statement}
+use Rattle.reader.proofs.all_hex.Tie as tie
 
 abbrev Inv-loop : tie.InvT-loop
 Inv-loop line all₀ i₀ all i = (i ≤ length line) × ((all && allHex (drop i line)) ≡ allHex line)

@@ -4,9 +4,9 @@ use Prim.Native.Nat.{ℕ, _≤_, _-_, zero-le}
 use native.Mathlib.Omega.{arith}
 use lib.ListN.{length, getD, take, drop, set, length-set}
 use lib.Seq.{take-length}
-use Rattle.frame.proofs.Reader.{copy-more}
-use Rattle.frame.proofs.copy.Statement.{statement}
-use Rattle.frame.proofs.copy.Tie as tie
+use Rattle.reader.proofs.Reader.{copy-more}
+use Rattle.reader.proofs.copy.Statement.{statement}
+use Rattle.reader.proofs.copy.Tie as tie
 
 abbrev Inv-loop : tie.InvT-loop
 Inv-loop src dst₀ i₀ dst i = (i ≤ length src) × (dst ≡ take i src ++ drop i dst₀) × (length dst ≡ length dst₀)

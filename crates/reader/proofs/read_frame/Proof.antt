@@ -3,11 +3,12 @@ use native.Mathlib.Omega.{arith}
 use borrow.Author.Tests.{not-true, not-false}
 use lib.ListN.{length, length-take}
 use lib.Seq.{length-take-le}
 use Rattle.frame.specs.Frame.{isFrame}
-use Rattle.frame.proofs.Reader.{filled-none, filled-some, taken, no-room, odd, long, not-hex, bad, good}
+use Rattle.frame.proofs.Layouts.{filled-none, filled-some}
+use Rattle.reader.proofs.Reader.{taken, no-room, odd, long, not-hex, bad, good}
 use borrow.Author.Needs.{needs}
-use Rattle.frame.proofs.read_frame.Statement.{statement}
-use Rattle.frame.proofs.read_frame.Tie as tie
+use Rattle.reader.proofs.read_frame.Statement.{statement}
+use Rattle.reader.proofs.read_frame.Tie as tie
 
 returns : tie.Need-returns
 returns c = let a = c .before .before .before .args in filled-none _ (a .frame .now) (no-room (a .line .now) _ (omega arith))

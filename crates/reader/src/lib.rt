@@ -1,0 +1,91 @@
+// Frames read from lines of hexadecimal digits.
+ghost use mathlib.Core.Path.{_≡_};
+ghost use mathlib.Core.Bool.{true};
+ghost use mathlib.Core.List.{_++_};
+ghost use Prim.Native.Nat.{_*_, _≤_, _<_};
+ghost use lib.ListN.{length, drop};
+ghost use Rattle.frame.specs.Hex.{isHex, allHex, nibble, unhex};
+ghost use Rattle.frame.specs.Frame.{readFrame};
+ghost use Rattle.frame.specs.Filled.{Filled};
+use frame::is_digit;
+use frame::well_formed;
+
+// A lowercase hexadecimal digit.
+fn is_hex(d: u8) -> bool
+    ensures { λ r. ⌜ r ≡ isHex d ⌝ }
+{
+    is_digit(d) | ((97 <= d) & (d <= 102))
+}
+
+// It looks at every digit, whatever came before: so the compiler takes many at a time.
+fn all_hex(line: &[u8]) -> bool
+    ensures { λ r. ⌜ r ≡ allHex (now (line .entry)) ⌝ }
+{
+    let mut all = true;
+    let mut i = 0;
+    while i < line.len() {
+        all = all & is_hex(line[i]);
+        i += 1;
+    }
+    all
+}
+
+// The value of a hexadecimal digit, by its low bits.
+fn digit_value(d: u8) -> u8
+    requires { ⌜ isHex d ≡ true ⌝ }
+    ensures { λ r. ⌜ (r ≡ nibble d) × (r < 16) ⌝ }
+{
+    d % 16 + d / 64 * 9
+}
+
+// The n bytes of a line of 2 * n hexadecimal digits.
+fn decode(line: &[u8], n: usize, buf: &mut [u8])
+    requires { ⌜ (length (now line) ≡ 2 * n) × (n ≤ length (now buf)) × (allHex (now line) ≡ true) ⌝ }
+    ensures { λ _. ⌜ now (buf .exit) ≡ unhex (now (line .entry)) ++ drop n (now (buf .entry)) ⌝ }
+{
+    let mut i = 0;
+    while i < n {
+        buf[i] = digit_value(line[2 * i]) * 16 + digit_value(line[2 * i + 1]);
+        i += 1;
+    }
+}
+
+// The bytes of src from byte 0 of dst on, and how many they are.
+fn copy(src: &[u8], dst: &mut [u8]) -> usize
+    requires { ⌜ length (now src) ≤ length (now dst) ⌝ }
+    ensures { λ r. ⌜ Filled (now (src .entry)) (now (dst .entry)) (now (dst .exit)) r ⌝ }
+{
+    let mut i = 0;
+    while i < src.len() {
+        dst[i] = src[i];
+        i += 1;
+    }
+    i
+}
+
+// Writes the frame that a line is from byte 0 on and returns its length. Where the line is no frame, or the buffer has under 352 bytes, it returns 0 and
+// leaves the buffer as it was.
+#[no_mangle]
+pub extern "C" fn read_frame(line: &[u8], frame: &mut [u8]) -> usize
+    ensures { λ r. ⌜ Filled (readFrame (now (line .entry)) (length (now (frame .entry)))) (now (frame .entry)) (now (frame .exit)) r ⌝ }
+{
+    if frame.len() < 352 {
+        return 0;
+    }
+    if line.len() % 2 != 0 {
+        return 0;
+    }
+    let n = line.len() / 2;
+    if 352 < n {
+        return 0;
+    }
+    if !all_hex(line) {
+        return 0;
+    }
+    let mut buf = [0u8; 352];
+    decode(line, n, &mut buf);
+    if !well_formed(&buf[..n]) {
+        return 0;
+    }
+    copy(&buf[..n], frame)
+}
