@@ -67,11 +67,18 @@ line-written l i s₀ s₁ s₂ s₃ s₄ s₅ s₆ value used left v u w e₁ e
     ∙ ap (λ (t : List ℕ). write t (i + 1) two) e₁
     ∙ write-then s₀ i (l .closed ∷ []) two (i + 1) (omega arith))
 
-pub account-written : (s : List ℕ) (i : ℕ) (l p : Line)
-    → write (write (write s i (0 ∷ [])) (i + 1) (lineBytes l)) (i + 29) (lineBytes p) ≡ write s i ((0 ∷ []) ++ (lineBytes l ++ lineBytes p))
-account-written s i l p =
-    write-then (write s i (0 ∷ [])) (i + 1) (lineBytes l) (lineBytes p) (i + 29) (omega (arith, length-line l))
-    ∙ write-then s i (0 ∷ []) (lineBytes l ++ lineBytes p) (i + 1) (omega arith)
+-- the first byte, then the two lines
+pub account-written : (l p : Line) (i : ℕ) (s₀ s₁ s₂ s₃ : List ℕ)
+    → s₁ ≡ write s₀ i (0 ∷ [])
+    → s₂ ≡ write s₁ (i + 1) (lineBytes l)
+    → s₃ ≡ write s₂ (i + 29) (lineBytes p)
+    → s₃ ≡ write s₀ i ((0 ∷ []) ++ (lineBytes l ++ lineBytes p))
+account-written l p i s₀ s₁ s₂ s₃ e₁ e₂ e₃ =
+    e₃
+    ∙ ap (λ (t : List ℕ). write t (i + 29) (lineBytes p)) e₂
+    ∙ write-then s₁ (i + 1) (lineBytes l) (lineBytes p) (i + 29) (omega (arith, length-line l))
+    ∙ ap (λ (t : List ℕ). write t (i + 1) (lineBytes l ++ lineBytes p)) e₁
+    ∙ write-then s₀ i (0 ∷ []) (lineBytes l ++ lineBytes p) (i + 1) (omega arith)
 
 -- ---- sizes
 

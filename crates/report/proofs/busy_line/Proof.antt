@@ -17,7 +17,7 @@ cast-share c =
 
 returns : tie.Need-returns
 unfolding toLine Report.busyLine
-returns c = let s = c .before in cc (toZ-ofZ (s .fits .v), toZ-ofZ (s .fits .used), toZ-ofZ (s .fits .left))
+returns c = let s = c .before in rw (c .percent .ensures, toZ-ofZ (s .fits .v), toZ-ofZ (s .fits .used), toZ-ofZ (s .fits .left))
 
 pub busy-line-spec : {M : Type 1} → statement M
 busy-line-spec = tie.close (tie.spec percent-requires cast-share returns)

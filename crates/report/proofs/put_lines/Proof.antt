@@ -24,8 +24,8 @@ same-length c = search needs
 
 returns : tie.Need-returns
 returns c =
-    let s = c .before .before .before .before .before .before .before .before .before .before .before .before .before in
-    cc (account-written (s .args .out .now) (s .args .at) (toLine (s .args .ltk)) (toLine (s .args .lpo)))
+    let a = c .before .before .before .before .before .before .before .before .before .before .before .before .before .args in
+    account-written (toLine (a .ltk)) (toLine (a .lpo)) (a .at) _ _ _ _ (c .before .before .before .before .before .before .before .before .before .before .put-byte .ensures) (c .before .before .before .before .before .before .put-line .ensures) (c .before .before .put-line2 .ensures)
 
 pub put-lines-spec : {M : Type 1} → statement M
 put-lines-spec =
