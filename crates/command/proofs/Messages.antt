@@ -21,7 +21,7 @@ use Rattle.frame.proofs.Digits.{both}
 use Rattle.command.specs.declared.Header.{Header}
 use Rattle.command.specs.declared.Command.the-variants.{Change, Deletion, Query}
 use Rattle.command.specs.View.{toHeader, itemsFrom, idsFrom, toCommands}
-use Rattle.command.proofs.Parts.{part-part}
+use Rattle.slices.proofs.Parts.{part-part}
 use Rattle.command.proofs.ByKind.{end, kind-fields, kind-length, kind-command}
 
 -- ---- rows by their places

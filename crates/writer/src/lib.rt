@@ -15,12 +15,12 @@ ghost use Rattle.command.specs.View.{toHeader, itemsFrom, idsFrom, ordered};
 use command::Command;
 use command::Header;
 use command::Order;
-use command::copy;
 use octets::put_i64;
 use octets::put_u32;
 use rules::is_code;
 use rules::is_count;
 use rules::is_method;
+use slices::copy;
 
 fn put_byte(s: &mut [u8], at: usize, x: u8)
     requires { ⌜ at < length (now s) ⌝ }

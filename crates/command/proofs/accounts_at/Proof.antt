@@ -1,5 +1,5 @@
 use Rattle.octets.proofs.Places.{part-length}
-use Rattle.command.proofs.Parts.{part-more, row-within}
+use Rattle.slices.proofs.Parts.{part-more, row-within}
 use mathlib.Core.Path.{_≡_, refl}
 use Prim.Native.Nat.{ℕ, _≤_, _<_, _+_, _-_, _*_, zero-le}
 use native.Mathlib.Omega.{arith}

@@ -1,7 +1,7 @@
 use native.Mathlib.Omega.{arith}
 use mathlib.Core.Path.{_∙_}
 use Rattle.octets.proofs.Places.{part-length}
-use Rattle.command.proofs.Parts.{write-all}
+use Rattle.slices.proofs.Parts.{write-all}
 use borrow.Author.Needs.{needs}
 use Rattle.command.proofs.id_at.Statement.{statement}
 use Rattle.command.proofs.id_at.Tie as tie

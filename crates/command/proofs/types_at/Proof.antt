@@ -1,5 +1,5 @@
 use borrow.Author.Count.{below-none}
-use Rattle.command.proofs.Parts.{set-more}
+use Rattle.slices.proofs.Parts.{set-more}
 use mathlib.Core.Path.{_≡_, refl}
 use Prim.Native.Nat.{ℕ, _≤_, _<_, _+_, _-_, _*_, zero-le}
 use native.Mathlib.Omega.{arith}

@@ -1,6 +1,6 @@
 use borrow.Author.Count.{below-none}
 use Rattle.amount.proofs.Integer.{back}
-use Rattle.command.proofs.Parts.{set-more}
+use Rattle.slices.proofs.Parts.{set-more}
 use mathlib.Core.Path.{_≡_, refl, _∙_}
 use Prim.Native.Nat.{ℕ, _≤_, _<_, _+_, _-_, _*_, zero-le}
 use native.Mathlib.Omega.{arith}

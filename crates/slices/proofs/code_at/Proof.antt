@@ -1,7 +1,7 @@
-use Rattle.command.proofs.Parts.{decimal-six}
+use Rattle.slices.proofs.Parts.{decimal-six}
 use borrow.Author.Needs.{needs}
-use Rattle.command.proofs.code_at.Statement.{statement}
-use Rattle.command.proofs.code_at.Tie as tie
+use Rattle.slices.proofs.code_at.Statement.{statement}
+use Rattle.slices.proofs.code_at.Tie as tie
 
 shared-slice-read-digit : tie.Need-shared-slice-read-digit
 shared-slice-read-digit c = search needs

@@ -4,9 +4,9 @@ use Prim.Native.Nat.{ℕ, _≤_, _+_, _-_, zero-le}
 use native.Mathlib.Omega.{arith}
 use lib.ListN.{length, getD, set, length-set}
 use Rattle.octets.specs.Octets.{part, write}
-use Rattle.command.proofs.Parts.{write-more}
-use Rattle.command.proofs.copy.Statement.{statement}
-use Rattle.command.proofs.copy.Tie as tie
+use Rattle.slices.proofs.Parts.{write-more}
+use Rattle.slices.proofs.copy.Statement.{statement}
+use Rattle.slices.proofs.copy.Tie as tie
 
 abbrev Inv-loop : tie.InvT-loop
 Inv-loop src from k dst₀ to j₀ dst j = (j ≤ k) × (dst ≡ write dst₀ to (part from j src)) × (length dst ≡ length dst₀)
