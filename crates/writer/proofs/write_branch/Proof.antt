@@ -5,7 +5,7 @@ use borrow.Author.Tests.{not-true, not-false}
 use Rattle.rules.specs.Command.{Branch, wellFormed}
 use Rattle.frame.specs.Field.{width, bytesOf, allBytes}
 use Rattle.frame.specs.Frame.{kindByte, fieldsOf, kindOf, valuesOf, frameOf}
-use Rattle.writer.proofs.Fields.{behind, lastly, total, refused, written}
+use Rattle.field_writer.proofs.Fields.{behind, lastly, total, refused, written}
 use borrow.Author.Needs.{needs}
 use Rattle.writer.proofs.write_branch.Statement.{statement}
 use Rattle.writer.proofs.write_branch.Tie as tie

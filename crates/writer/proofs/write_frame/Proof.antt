@@ -8,7 +8,7 @@ use mir.Facts.{toZ-ofZ}
 use Rattle.rules.specs.Command as Rule
 use Rattle.command.specs.View.{toCommands, ordered}
 use Rattle.command.proofs.ByKind.{ordered-is}
-use Rattle.writer.proofs.Fields.{with-room, without-room, nothing-written}
+use Rattle.field_writer.proofs.Fields.{with-room, without-room, nothing-written}
 use borrow.Author.Needs.{needs}
 use Rattle.writer.proofs.write_frame.Statement.{statement}
 use Rattle.writer.proofs.write_frame.Tie as tie

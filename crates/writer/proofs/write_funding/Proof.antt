@@ -1,12 +1,12 @@
 use Rattle.frame.proofs.Digits.{length-digits}
 use Rattle.octets.proofs.Numbers.{fits-money}
-use Rattle.writer.proofs.Forms.{funding-formed}
+use Rattle.field_writer.proofs.Forms.{funding-formed}
 use mathlib.Core.Path.{refl, sym, _∙_}
 use borrow.Author.Tests.{not-true, not-false}
 use Rattle.rules.specs.Command.{Funding}
 use Rattle.frame.specs.Field.{size, width, plainBytes, bytesOf, allBytes}
 use Rattle.frame.specs.Frame.{kindByte, fieldsOf, kindOf, valuesOf, frameOf}
-use Rattle.writer.proofs.Fields.{amount-kept, behind, lastly, total, refused, written}
+use Rattle.field_writer.proofs.Fields.{amount-kept, behind, lastly, total, refused, written}
 use borrow.Author.Needs.{needs}
 use Rattle.writer.proofs.write_funding.Statement.{statement}
 use Rattle.writer.proofs.write_funding.Tie as tie

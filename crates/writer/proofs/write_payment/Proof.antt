@@ -1,14 +1,14 @@
 use lib.Dec.{leb}
 use Rattle.frame.proofs.Digits.{length-digits}
 use Rattle.octets.proofs.Numbers.{fits-money}
-use Rattle.writer.proofs.Forms.{payment-formed}
+use Rattle.field_writer.proofs.Forms.{payment-formed}
 use mathlib.Core.Path.{refl, sym, ap, ap₂, _∙_}
 use mathlib.Core.Bool.{Bool, _&&_}
 use borrow.Author.Tests.{not-true, not-false}
 use Rattle.rules.specs.Command.{Payment}
 use Rattle.frame.specs.Field.{size, width, plainBytes, bytesOf, allBytes}
 use Rattle.frame.specs.Frame.{kindByte, fieldsOf, kindOf, valuesOf, frameOf}
-use Rattle.writer.proofs.Fields.{amount-kept, behind, lastly, total, refused, written}
+use Rattle.field_writer.proofs.Fields.{amount-kept, behind, lastly, total, refused, written}
 use borrow.Author.Needs.{needs}
 use Rattle.writer.proofs.write_payment.Statement.{statement}
 use Rattle.writer.proofs.write_payment.Tie as tie

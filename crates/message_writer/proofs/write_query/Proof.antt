@@ -14,12 +14,12 @@ use Rattle.frame.specs.Frame.{kindByte, fieldsOf, kindOf, valuesOf, frameOf, id
 use Rattle.frame.proofs.Rows.{is-bytes}
 use Rattle.command.specs.View.{toHeader, idsFrom}
 use Rattle.rules.specs.Command.{Query, isCode, isCount, wellFormed}
-use Rattle.writer.proofs.Fields.{behind, lastly, byte-same, total, refused, written, message}
-use Rattle.writer.proofs.Forms.{bytes-fit, query-formed, count-most}
-use Rattle.writer.proofs.Rows.{ids-length, ids-fit, id-bytes}
+use Rattle.field_writer.proofs.Fields.{behind, lastly, byte-same, total, refused, written, message}
+use Rattle.field_writer.proofs.Forms.{bytes-fit, query-formed, count-most}
+use Rattle.message_writer.proofs.Rows.{ids-length, ids-fit, id-bytes}
 use borrow.Author.Needs.{needs}
-use Rattle.writer.proofs.write_query.Statement.{statement}
-use Rattle.writer.proofs.write_query.Tie as tie
+use Rattle.message_writer.proofs.write_query.Statement.{statement}
+use Rattle.message_writer.proofs.write_query.Tie as tie
 
 formed : (s : tie.Start) → wellFormed (Query (toHeader (s .args .h) (s .args .id)) (idsFrom 0 (s .args .n) (s .args .t4)))
     ≡ ((isCode (s .args .h .sender) && leb (s .args .h .second) 86399) && isCount (s .args .n))

@@ -3,10 +3,10 @@ use lib.ListN.{length}
 use Rattle.octets.specs.Octets.{write}
 use Rattle.octets.proofs.Numbers.{length-bigEndian}
 use Rattle.frame.proofs.Digits.{length-digits}
-use Rattle.writer.proofs.Fields.{behind, part-whole}
+use Rattle.field_writer.proofs.Fields.{behind, part-whole}
 use borrow.Author.Needs.{needs}
-use Rattle.writer.proofs.put_header.Statement.{statement}
-use Rattle.writer.proofs.put_header.Tie as tie
+use Rattle.message_writer.proofs.put_header.Statement.{statement}
+use Rattle.message_writer.proofs.put_header.Tie as tie
 
 put-byte-requires : tie.Need-put-byte-requires
 put-byte-requires c κs = search needs

@@ -1,8 +1,8 @@
 use mathlib.Core.Path.{refl}
 use Rattle.octets.specs.Octets.{write}
 use borrow.Author.Needs.{needs}
-use Rattle.writer.proofs.put_byte.Statement.{statement}
-use Rattle.writer.proofs.put_byte.Tie as tie
+use Rattle.field_writer.proofs.put_byte.Statement.{statement}
+use Rattle.field_writer.proofs.put_byte.Tie as tie
 
 slice-write-s : tie.Need-slice-write-s
 slice-write-s c = search needs

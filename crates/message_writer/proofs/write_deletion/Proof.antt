@@ -13,11 +13,11 @@ use Rattle.frame.proofs.Rows.{is-bytes}
 use Rattle.command.specs.View.{toHeader}
 use Rattle.octets.proofs.Places.{part-length}
 use Rattle.rules.specs.Command.{Deletion, isCode, wellFormed}
-use Rattle.writer.proofs.Fields.{behind, lastly, byte-one, total, refused, written, message}
-use Rattle.writer.proofs.Forms.{bytes-fit, deletion-formed}
+use Rattle.field_writer.proofs.Fields.{behind, lastly, byte-one, total, refused, written, message}
+use Rattle.field_writer.proofs.Forms.{bytes-fit, deletion-formed}
 use borrow.Author.Needs.{needs}
-use Rattle.writer.proofs.write_deletion.Statement.{statement}
-use Rattle.writer.proofs.write_deletion.Tie as tie
+use Rattle.message_writer.proofs.write_deletion.Statement.{statement}
+use Rattle.message_writer.proofs.write_deletion.Tie as tie
 
 formed : (s : tie.Start) → wellFormed (Deletion (toHeader (s .args .h) (s .args .id)) (part 0 10 (s .args .t4)) (s .args .limit))
     ≡ (isCode (s .args .h .sender) && leb (s .args .h .second) 86399)

@@ -2,8 +2,8 @@ use lib.ListN.{getD, length}
 use lib.IntN.{pos}
 use mir.Syntax.{w8, w64}
 use mir.Val.{Fits, SFits}
-use Rattle.writer.proofs.Fields.{amount-kept}
-use Rattle.writer.proofs.Forms.{amount-fits}
+use Rattle.field_writer.proofs.Fields.{amount-kept}
+use Rattle.field_writer.proofs.Forms.{amount-fits}
 use mathlib.Core.Path.{_≡_, refl, ap, _∙_}
 use Prim.Native.Nat.{ℕ, _≤_, _-_, zero-le}
 use native.Mathlib.Omega.{arith}
@@ -11,9 +11,9 @@ use borrow.Author.Needs.{needs}
 use Rattle.octets.specs.Octets.{write}
 use Rattle.frame.specs.Field.{rowsBytes}
 use Rattle.command.specs.View.{itemsFrom}
-use Rattle.writer.proofs.Rows.{itemBytes, item-written}
-use Rattle.writer.proofs.put_items.Statement.{statement}
-use Rattle.writer.proofs.put_items.Tie as tie
+use Rattle.message_writer.proofs.Rows.{itemBytes, item-written}
+use Rattle.message_writer.proofs.put_items.Statement.{statement}
+use Rattle.message_writer.proofs.put_items.Tie as tie
 
 abbrev Inv-loop : tie.InvT-loop
 Inv-loop n frame₀ accounts types values i₀ frame i = (i ≤ n) × (frame ≡ write frame₀ 48 (itemBytes 0 i accounts types values)) × (length frame ≡ length frame₀)

@@ -1,8 +1,8 @@
 use mathlib.Core.Path.{ap₂}
 use mathlib.Core.Bool.{_&&_}
 use borrow.Author.Needs.{needs}
-use Rattle.writer.proofs.rows_fit.Statement.{statement}
-use Rattle.writer.proofs.rows_fit.Tie as tie
+use Rattle.message_writer.proofs.rows_fit.Statement.{statement}
+use Rattle.message_writer.proofs.rows_fit.Tie as tie
 
 header-fits-requires : tie.Need-header-fits-requires
 header-fits-requires c κs = search needs

@@ -2,8 +2,8 @@ use mathlib.Core.Path.{ap}
 use mathlib.Core.Bool.{Bool, _&&_}
 use lib.Dec.{leb}
 use borrow.Author.Needs.{needs}
-use Rattle.writer.proofs.header_fits.Statement.{statement}
-use Rattle.writer.proofs.header_fits.Tie as tie
+use Rattle.message_writer.proofs.header_fits.Statement.{statement}
+use Rattle.message_writer.proofs.header_fits.Tie as tie
 
 is-code-requires : tie.Need-is-code-requires
 is-code-requires c κs = search needs

@@ -15,12 +15,12 @@ use Rattle.command.specs.View.{toHeader, itemsFrom}
 use lib.IntN.{pos}
 use Rattle.octets.proofs.Numbers.{fits-money}
 use Rattle.rules.specs.Command.{Change, isCode, isCount, wellFormed}
-use Rattle.writer.proofs.Fields.{behind, lastly, byte-same, total, refused, written, message}
-use Rattle.writer.proofs.Forms.{bytes-fit, amount-fits, change-formed, count-most}
-use Rattle.writer.proofs.Rows.{items-length, items-fit}
+use Rattle.field_writer.proofs.Fields.{behind, lastly, byte-same, total, refused, written, message}
+use Rattle.field_writer.proofs.Forms.{bytes-fit, amount-fits, change-formed, count-most}
+use Rattle.message_writer.proofs.Rows.{items-length, items-fit}
 use borrow.Author.Needs.{needs}
-use Rattle.writer.proofs.write_change.Statement.{statement}
-use Rattle.writer.proofs.write_change.Tie as tie
+use Rattle.message_writer.proofs.write_change.Statement.{statement}
+use Rattle.message_writer.proofs.write_change.Tie as tie
 
 formed : (s : tie.Start) → wellFormed (Change (toHeader (s .args .h) (s .args .id)) (itemsFrom 0 (s .args .n) (s .args .accounts) (s .args .types) (s .args .values)))
     ≡ ((isCode (s .args .h .sender) && leb (s .args .h .second) 86399) && isCount (s .args .n))

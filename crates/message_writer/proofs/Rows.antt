@@ -14,8 +14,8 @@ use Rattle.rules.specs.Command.{every, isItem}
 use Rattle.frame.specs.Field.{plainBytes, rowBytes, rowsBytes}
 use Rattle.frame.specs.Frame.{itemRow, idRow, itemValues, idValues}
 use Rattle.command.specs.View.{itemsFrom, idsFrom}
-use Rattle.writer.proofs.Fields.{behind, lastly, byte-one, length-money}
-use Rattle.writer.proofs.Forms.{id-fits}
+use Rattle.field_writer.proofs.Fields.{behind, lastly, byte-one, length-money}
+use Rattle.field_writer.proofs.Forms.{id-fits}
 
 -- ---- items
 
