@@ -4,11 +4,11 @@ ghost use Rattle.table.specs.Promise.{Good, Called};
 use account::Limit;
 use account::with_limits;
 use amount::is_limit;
-use ledger::bank_checks;
-use ledger::slot;
+use banks::bank_checks;
 use table::Outcome;
 use table::Table;
 use table::place;
+use table::slot;
 
 pub fn bank_limits(t: Table, code: u32, ltk: i64, lpo: i64) -> Outcome
     requires { ⌜ Good t ⌝ }

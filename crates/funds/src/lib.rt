@@ -2,16 +2,16 @@
 ghost use Rattle.rules.specs.Command.{Funding, Withdrawal};
 ghost use Rattle.table.specs.Promise.{Good, Called};
 use amount::is_amount;
+use banks::bank_checks;
 use booking::amount_of;
 use booking::start_down;
 use booking::start_up;
 use holding::covers;
 use holding::total_fits;
-use ledger::bank_checks;
-use ledger::slot;
 use table::Outcome;
 use table::Table;
 use table::place;
+use table::slot;
 use table::total;
 
 pub fn fund(t: Table, code: u32, amount: i64) -> Outcome

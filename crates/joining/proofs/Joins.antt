@@ -19,8 +19,8 @@ use Rattle.table.specs.Promise.{Good, call, Called}
 use Rattle.table.proofs.Called.{accepted}
 use Rattle.table.proofs.Found.{place-known}
 use Rattle.table.proofs.Places.{accounts-length, append-accounts, append-codes}
-use Rattle.ledger.specs.Parts.{Slot, Holds}
-use Rattle.ledger.proofs.Banks.{bank-named}
+use Rattle.table.specs.Promise.{Slot, Holds}
+use Rattle.banks.proofs.Banks.{bank-named}
 
 -- the accounts that a table holds are a call's
 pub held-called : (k : Command) (t : Table) → Good t → (r : Table) (xs : List Rule.Account) → Holds t r xs → answer (machineOf t) (call k) ≡ 0 → withAccounts xs (machineOf t) ≡ effect (machineOf t) k

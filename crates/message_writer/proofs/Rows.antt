@@ -15,7 +15,7 @@ use Rattle.frame.specs.Field.{plainBytes, rowBytes, rowsBytes}
 use Rattle.frame.specs.Frame.{itemRow, idRow, itemValues, idValues}
 use Rattle.command.specs.View.{itemsFrom, idsFrom}
 use Rattle.field_writer.proofs.Fields.{behind, lastly, byte-one, length-money}
-use Rattle.field_writer.proofs.Forms.{id-fits}
+use Rattle.command.proofs.Forms.{id-fits}
 
 -- ---- items
 
@@ -32,11 +32,6 @@ module _ (a t : List ℕ) (v : List ℤ) where
   unfolding one
   one-length k h =
       simp (length-append, length-bigEndian, length-money, part-length (k * 10) 10 a h)
-
-  pub items-length : (i n : ℕ) → length (itemsFrom i n a t v) ≡ n
-  unfolding itemsFrom
-  items-length i zero = refl
-  items-length i (suc n) = ap suc (items-length (suc i) n)
 
   pub item-bytes-length : (i n : ℕ) → (i + n) * 10 ≤ length a → length (itemBytes i n a t v) ≡ n * 19
   unfolding itemsFrom rowsBytes rowBytes plainBytes itemValues one
@@ -68,24 +63,7 @@ module _ (a t : List ℕ) (v : List ℤ) where
       ∙ write-then f 48 (itemBytes 0 i a t v) (one i) (48 + i * 19) (omega (arith, item-bytes-length 0 i (omega arith)))
       ∙ ap (write f 48) (ap (λ (j : ℕ). itemBytes 0 i a t v ++ one j) (sym z) ∙ sym (item-behind 0 i))
 
-  pub items-fit : (i n : ℕ) → (i + n) * 10 ≤ length a → areBytes a ≡ true → ((k : ℕ) → getD t k 0 < 256) → ((k : ℕ) → isMoney (getD v k (pos 0)) ≡ true)
-      → every isItem (itemsFrom i n a t v) ≡ true
-  unfolding itemsFrom every isItem
-  items-fit i zero h b f g = refl
-  items-fit i (suc n) h b f g =
-      ap₂ _&&_ (ap₂ _&&_ (ap₂ _&&_ (id-fits a i b (omega arith)) (lt-ltb (getD t i 0) 256 (f i))) (g i)) (items-fit (suc i) n (omega arith) b f g)
-
 -- ---- account ids
-
-pub ids-length : (a : List ℕ) (i n : ℕ) → length (idsFrom i n a) ≡ n
-unfolding idsFrom
-ids-length a i zero = refl
-ids-length a i (suc n) = ap suc (ids-length a (suc i) n)
-
-pub ids-fit : (a : List ℕ) (i n : ℕ) → (i + n) * 10 ≤ length a → areBytes a ≡ true → every (isBytes 10) (idsFrom i n a) ≡ true
-unfolding idsFrom every
-ids-fit a i zero h b = refl
-ids-fit a i (suc n) h b = ap₂ _&&_ (id-fits a i b (omega arith)) (ids-fit a (suc i) n (omega arith) b)
 
 -- one behind the other they are the bytes as they stand
 pub id-bytes : (a : List ℕ) (i n : ℕ) → rowsBytes idRow (map idValues (idsFrom i n a)) ≡ part (i * 10) (n * 10) a

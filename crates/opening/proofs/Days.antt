@@ -25,7 +25,7 @@ use Rattle.table.specs.View.{accountsOf, machineOf}
 use Rattle.table.specs.Promise.{Good, call, Called}
 use Rattle.table.proofs.Called.{every-sized, accepted}
 use Rattle.table.proofs.Places.{accounts-length, accounts-at, map-append}
-use Rattle.ledger.specs.Parts.{Holds}
+use Rattle.table.specs.Promise.{Holds}
 
 -- the first i accounts of t have had their new day in u, the others stand as they were
 pub record Renewed (t u : Table) (i : ℕ) : Type 0 where

@@ -4,7 +4,7 @@ ghost use Rattle.rules.specs.Command.{Opening};
 ghost use Rattle.rules.specs.Day.{newDay};
 ghost use Rattle.table.specs.View.{accountsOf};
 ghost use Rattle.table.specs.Promise.{Good, Called};
-ghost use Rattle.ledger.specs.Parts.{Holds};
+ghost use Rattle.table.specs.Promise.{Holds};
 use morning::new_day;
 use table::Outcome;
 use table::Table;

@@ -5,7 +5,7 @@ ghost use lib.ListN.{length, take};
 ghost use Rattle.rules.specs.Account as Rule;
 ghost use Rattle.rules.specs.Machine as Machine;
 ghost use Rattle.table.specs.View.{accountsOf, machineOf, placeOf};
-ghost use Rattle.table.specs.Promise.{Good};
+ghost use Rattle.table.specs.Promise.{Good, Slot};
 use account::Account;
 use account::Owner;
 use account::opened;
@@ -50,6 +50,13 @@ pub fn place(all: &[u32; 64], n: usize, code: u32) -> usize
         i += 1;
     }
     n
+}
+
+// The place of a code as a place of the array: its own where the code is known, any where it is not.
+pub fn slot(i: usize) -> usize
+    ensures { λ r. ⌜ Slot i r ⌝ }
+{
+    if i < 64 { i } else { 0 }
 }
 
 // What bank accounts hold together.

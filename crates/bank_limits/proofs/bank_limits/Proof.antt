@@ -15,8 +15,8 @@ use Rattle.table.specs.View.{machineOf}
 use Rattle.table.specs.Promise.{call}
 use Rattle.table.proofs.Called.{declined}
 use Rattle.table.proofs.Places.{length-mapped}
-use Rattle.ledger.specs.Parts.{bankChecks}
-use Rattle.ledger.proofs.Banks.{Screened, screened, changed, and-money, limits-tested}
+use Rattle.banks.specs.Parts.{bankChecks}
+use Rattle.banks.proofs.Banks.{Screened, screened, changed, and-money, limits-tested}
 use Rattle.bank_limits.proofs.bank_limits.Statement.{statement}
 use Rattle.bank_limits.proofs.bank_limits.Tie as tie
 

@@ -16,8 +16,8 @@ use Rattle.table.specs.Promise.{call}
 use Rattle.table.proofs.Called.{declined}
 use Rattle.table.proofs.Found.{account-at, account-sized}
 use Rattle.table.proofs.Places.{length-mapped}
-use Rattle.ledger.specs.Parts.{bankChecks}
-use Rattle.ledger.proofs.Banks.{Screened, screened, changed, refuses, and-money}
+use Rattle.banks.specs.Parts.{bankChecks}
+use Rattle.banks.proofs.Banks.{Screened, screened, changed, refuses, and-money}
 use Rattle.funds.proofs.withdraw.Statement.{statement}
 use Rattle.funds.proofs.withdraw.Tie as tie
 

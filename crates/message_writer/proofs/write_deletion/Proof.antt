@@ -14,7 +14,7 @@ use Rattle.command.specs.View.{toHeader}
 use Rattle.octets.proofs.Places.{part-length}
 use Rattle.rules.specs.Command.{Deletion, isCode, wellFormed}
 use Rattle.field_writer.proofs.Fields.{behind, lastly, byte-one, total, refused, written, message}
-use Rattle.field_writer.proofs.Forms.{bytes-fit, deletion-formed}
+use Rattle.command.proofs.Forms.{bytes-fit, deletion-formed}
 use borrow.Author.Needs.{needs}
 use Rattle.message_writer.proofs.write_deletion.Statement.{statement}
 use Rattle.message_writer.proofs.write_deletion.Tie as tie

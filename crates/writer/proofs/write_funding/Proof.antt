@@ -1,6 +1,6 @@
 use Rattle.frame.proofs.Digits.{length-digits}
 use Rattle.octets.proofs.Numbers.{fits-money}
-use Rattle.field_writer.proofs.Forms.{funding-formed}
+use Rattle.command.proofs.Forms.{funding-formed}
 use mathlib.Core.Path.{refl, sym, _∙_}
 use borrow.Author.Tests.{not-true, not-false}
 use Rattle.rules.specs.Command.{Funding}

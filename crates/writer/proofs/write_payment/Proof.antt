@@ -1,7 +1,7 @@
 use lib.Dec.{leb}
 use Rattle.frame.proofs.Digits.{length-digits}
 use Rattle.octets.proofs.Numbers.{fits-money}
-use Rattle.field_writer.proofs.Forms.{payment-formed}
+use Rattle.command.proofs.Forms.{payment-formed}
 use mathlib.Core.Path.{refl, sym, ap, ap₂, _∙_}
 use mathlib.Core.Bool.{Bool, _&&_}
 use borrow.Author.Tests.{not-true, not-false}

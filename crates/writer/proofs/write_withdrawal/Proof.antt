@@ -1,6 +1,6 @@
 use Rattle.frame.proofs.Digits.{length-digits}
 use Rattle.octets.proofs.Numbers.{fits-money}
-use Rattle.field_writer.proofs.Forms.{withdrawal-formed}
+use Rattle.command.proofs.Forms.{withdrawal-formed}
 use mathlib.Core.Path.{refl, sym, _∙_}
 use borrow.Author.Tests.{not-true, not-false}
 use Rattle.rules.specs.Command.{Withdrawal}

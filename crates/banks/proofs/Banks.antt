@@ -26,7 +26,8 @@ use Rattle.table.specs.View.{accountsOf, machineOf, placeOf}
 use Rattle.table.specs.Promise.{Good, call, Called}
 use Rattle.table.proofs.Found.{place-is, place-known, account-at}
 use Rattle.table.proofs.Stored.{stored-none, stored-with, stored-called}
-use Rattle.ledger.specs.Parts.{bankChecks, Slot}
+use Rattle.banks.specs.Parts.{bankChecks}
+use Rattle.table.specs.Promise.{Slot}
 
 -- what the answer a of the first checks says of the command k, which names the code c: j is the place where its account was looked for
 pub record Screened (t : Table) (k : Command) (c j : ℕ) (inRange : Bool) (a : ℕ) : Type 0 where

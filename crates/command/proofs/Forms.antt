@@ -3,6 +3,7 @@ use mathlib.Core.Path.{_≡_, refl, ap, ap₂, _∙_}
 use mathlib.Core.Bool.{Bool, true, false, _&&_, and-true}
 use mathlib.Core.List.{List, [], _∷_}
 use Prim.Native.Nat.{ℕ, zero, suc, _+_, _*_, _^_, _<_, _≤_}
+use native.Mathlib.Omega.{arith}
 use lib.ListN.{length, getD}
 use lib.IntN.{ℤ, pos}
 use lib.Dec.{leb, ltb, lit<}
@@ -109,3 +110,28 @@ module _ (h : Header) (id : List ℕ) (bytes : isBytes 32 id ≡ true) (day : h 
 pub count-most : (h : Header) (n : ℕ) → ((isCode (h .sender) && leb (h .second) 86399) && isCount n) ≡ true → n ≤ 16
 unfolding isCount
 count-most h n e = leb-true n 16 (both (leb 1 n) (leb n 16) (both (isCode (h .sender) && leb (h .second) 86399) (isCount n) e .1) .1)
+
+-- ---- rows: how many they are, and when they are in range
+
+module _ (a t : List ℕ) (v : List ℤ) where
+  pub items-length : (i n : ℕ) → length (itemsFrom i n a t v) ≡ n
+  unfolding itemsFrom
+  items-length i zero = refl
+  items-length i (suc n) = ap suc (items-length (suc i) n)
+
+  pub items-fit : (i n : ℕ) → (i + n) * 10 ≤ length a → areBytes a ≡ true → ((k : ℕ) → getD t k 0 < 256) → ((k : ℕ) → isMoney (getD v k (pos 0)) ≡ true)
+      → every isItem (itemsFrom i n a t v) ≡ true
+  unfolding itemsFrom every isItem
+  items-fit i zero h b f g = refl
+  items-fit i (suc n) h b f g =
+      ap₂ _&&_ (ap₂ _&&_ (ap₂ _&&_ (id-fits a i b (omega arith)) (lt-ltb (getD t i 0) 256 (f i))) (g i)) (items-fit (suc i) n (omega arith) b f g)
+
+pub ids-length : (a : List ℕ) (i n : ℕ) → length (idsFrom i n a) ≡ n
+unfolding idsFrom
+ids-length a i zero = refl
+ids-length a i (suc n) = ap suc (ids-length a (suc i) n)
+
+pub ids-fit : (a : List ℕ) (i n : ℕ) → (i + n) * 10 ≤ length a → areBytes a ≡ true → every (isBytes 10) (idsFrom i n a) ≡ true
+unfolding idsFrom every
+ids-fit a i zero h b = refl
+ids-fit a i (suc n) h b = ap₂ _&&_ (id-fits a i b (omega arith)) (ids-fit a (suc i) n (omega arith) b)
