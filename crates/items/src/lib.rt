@@ -1,0 +1,163 @@
+// The limits that a change and a deletion name: checked, and set on a table.
+ghost use mathlib.Core.Path.{_≡_};
+ghost use mathlib.Core.List.{List};
+ghost use Prim.Native.Nat.{ℕ, _≤_};
+ghost use Rattle.rules.specs.Account.{adjust};
+ghost use Rattle.rules.specs.Command.{some?};
+ghost use Rattle.rules.specs.Message as Message;
+ghost use Rattle.command.specs.View.{toHeader, itemsFrom};
+ghost use Rattle.account.specs.View.{toAccount};
+ghost use Rattle.table.specs.View.{accountsOf};
+ghost use Rattle.table.specs.Promise.{Good, Holds};
+ghost use Rattle.items.specs.Items.{Tested, Stepped, Flagged};
+use account::Account;
+use account::Limit;
+use account::cleared;
+use account::is_later;
+use account::is_owned_by;
+use account::touched;
+use amount::is_limit;
+use command::Header;
+use message::is_type;
+use message::named;
+use table::Table;
+use table::place;
+use table::slot;
+
+// ---- checks
+
+// Whether checks 18, 19, 20 and 6 pass.
+pub struct Flags {
+    pub later: bool,
+    pub typed: bool,
+    pub owned: bool,
+    pub ranged: bool,
+}
+
+// One named limit, which has no value here. Where its code is not known, x is any account.
+pub fn test_limit(x: Account, known: bool, kind: u8, header: Header) -> Flags
+    ensures { λ r. ⌜ ((id : List ℕ) → Tested (toHeader header id) known (toAccount x) kind r) ⌝ }
+{
+    let owned = known & is_owned_by(x, header.sender);
+    Flags {
+        later: !owned | is_later(x, header.day, header.second),
+        typed: is_type(kind),
+        owned: owned,
+        ranged: true,
+    }
+}
+
+// The flags with one item more.
+fn test_item(f: Flags, x: Account, known: bool, kind: u8, value: i64, header: Header) -> Flags
+    ensures { λ r. ⌜ ((id : List ℕ) → Stepped (toHeader header id) known (toAccount x) kind value f r) ⌝ }
+{
+    let g = test_limit(x, known, kind, header);
+    Flags {
+        later: g.later & f.later,
+        typed: g.typed & f.typed,
+        owned: g.owned & f.owned,
+        ranged: is_limit(value) & f.ranged,
+    }
+}
+
+// Each check over all n items of a change.
+pub fn test_items(
+    t: Table,
+    accounts: [u8; 160],
+    types: [u8; 16],
+    values: [i64; 16],
+    n: usize,
+    header: Header,
+) -> Flags
+    requires { ⌜ (Good t) × (n ≤ 16) ⌝ }
+    ensures { λ r. ⌜ ((id : List ℕ) → Flagged (toHeader header id) (accountsOf t) (itemsFrom 0 n accounts types values) r) ⌝ }
+{
+    let count = t.count;
+    let mut f = Flags {
+        later: true,
+        typed: true,
+        owned: true,
+        ranged: true,
+    };
+    let mut i = n;
+    while i > 0 {
+        i -= 1;
+        let p = place(&t.codes, count, named(&accounts, i * 10));
+        let j = slot(p);
+        f = test_item(f, t.accounts[j], p < count, types[i], values[i], header);
+    }
+    f
+}
+
+// Whether a bank has at least one branch.
+pub fn has_branch(t: Table, bank: u32) -> bool
+    requires { ⌜ Good t ⌝ }
+    ensures { λ r. ⌜ r ≡ some? (λ x. Message.ownedBy bank (x .owner)) (accountsOf t) ⌝ }
+{
+    let n = t.count;
+    let mut i: usize = 0;
+    while i < n {
+        if is_owned_by(t.accounts[i], bank) {
+            return true;
+        }
+        i += 1;
+    }
+    false
+}
+
+// ---- what a message sets
+
+// The n items of a change, in order; an id that names no account changes nothing.
+pub fn set_items(
+    t: Table,
+    accounts: [u8; 160],
+    types: [u8; 16],
+    values: [i64; 16],
+    n: usize,
+    header: Header,
+) -> Table
+    requires { ⌜ (Good t) × (n ≤ 16) ⌝ }
+    ensures { λ r. ⌜ ((id : List ℕ) → Holds t r (Message.setItems (toHeader header id) (itemsFrom 0 n accounts types values) (accountsOf t))) ⌝ }
+{
+    let count = t.count;
+    let mut u = t;
+    let mut i: usize = 0;
+    while i < n {
+        let p = place(&u.codes, count, named(&accounts, i * 10));
+        let kind = types[i];
+        let value = values[i];
+        let limit = Limit::Value(value);
+        i += 1;
+        if p < count {
+            let y = touched(u.accounts[p], kind, limit, header.day, header.second);
+            u.accounts[p] = y;
+        }
+    }
+    u
+}
+
+// One limit of an account deleted.
+fn deleted(x: Account, kind: u8, header: Header) -> Account
+    ensures { λ r. ⌜ ((id : List ℕ) → toAccount r ≡ Message.touch (toHeader header id) kind Message.cleared (toAccount x)) ⌝ }
+{
+    let ltk = x.ltk;
+    let lpo = x.lpo;
+    let limit = if kind == 1 { ltk } else { lpo };
+    touched(x, kind, cleared(limit), header.day, header.second)
+}
+
+// A deletion; an unknown code changes nothing.
+pub fn delete_limit(t: Table, code: u32, kind: u8, header: Header) -> Table
+    requires { ⌜ Good t ⌝ }
+    ensures { λ r. ⌜ ((id : List ℕ) → Holds t r (adjust code (Message.touch (toHeader header id) kind Message.cleared) (accountsOf t))) ⌝ }
+{
+    let n = t.count;
+    let p = place(&t.codes, n, code);
+    if p >= n {
+        return t;
+    }
+    let y = deleted(t.accounts[p], kind, header);
+    let mut u = t;
+    u.accounts[p] = y;
+    u
+}

@@ -1,0 +1,172 @@
+-- Kind 07 as a whole call. Assumes nothing.
+use borrow.Author.Needs.{needs}
+use mathlib.Core.Path.{_≡_, refl, sym, ap₂, _∙_, subst}
+use mathlib.Core.Bool.{_&&_}
+use mathlib.Core.Logic.{⊎-elim}
+use mathlib.Core.List.{List}
+use Prim.Native.Nat.{ℕ, _≤_, _<_}
+use native.Mathlib.Omega.{arith}
+use lib.Dec.{T, leb}
+use lib.ListN.{length, getD}
+use lib.IntN.{pos}
+use mir.Syntax.{w8, w32, w64}
+use mir.Val.{Fits, SFits}
+use Rattle.octets.proofs.Numbers.{fits-money}
+use Rattle.rules.specs.Command.{Header, Item, Command, Change, isCode, isCount, wellFormed}
+use Rattle.rules.specs.Machine.{Machine, checks, effect, answer, firstFailure}
+use Rattle.rules.specs.Message.{limitChecks, setItems}
+use Rattle.rules.proofs.Bools.{is-true}
+use Rattle.rules.proofs.Checks.{passed}
+use Rattle.frame.proofs.Rows.{is-bytes}
+use Rattle.command.specs.View.{toHeader, itemsFrom}
+use Rattle.command.proofs.Forms.{bytes-fit, amount-fits, change-formed, count-most, items-length, items-fit}
+use Rattle.table.specs.View.{accountsOf}
+use Rattle.table.specs.Promise.{Good}
+use Rattle.promise.specs.View.{viewOf, lent}
+use Rattle.promise.proofs.Laws.{good-table, settled-no}
+use Rattle.limits.specs.Parts.{headerChecks}
+use Rattle.limits.proofs.Parts.{change-rest}
+use Rattle.limits.proofs.Calls.{header-fails, header-passes, room, taken}
+use Rattle.limits.proofs.change.Statement.{statement}
+use Rattle.limits.proofs.change.Tie as tie
+
+abbrev of : tie.Start → Header
+of s = toHeader (s .args .header) (s .args .t6)
+
+abbrev items : tie.Start → List Item
+items s = itemsFrom 0 (s .args .n) (s .args .accounts) (s .args .types) (s .args .values)
+
+abbrev asked : tie.Start → Command
+asked s = Change (of s) (items s)
+
+abbrev view : tie.Start → Machine
+view s = viewOf (s .args .t) (s .args .ids .now) (s .args .days .now) (s .args .used)
+
+good : (s : tie.Start) → Good (s .args .t)
+good s = good-table (s .args .t) (s .args .ids .now) (s .args .days .now) (s .args .used) (s .pre)
+
+id-long : (s : tie.Start) → length (s .args .t6) ≡ 32
+id-long s = search needs
+
+formed : (s : tie.Start) → wellFormed (asked s) ≡ ((isCode (s .args .header .sender) && leb (s .args .header .second) 86399) && isCount (s .args .n))
+formed s =
+    let d : Fits w32 (s .args .header .day) = search needs in
+    let l : length (s .args .accounts) ≡ 160 = search needs in
+    let f : (k : ℕ) → Fits w8 (getD (s .args .types) k 0) = λ k. search needs in
+    let g : (k : ℕ) → SFits w64 (getD (s .args .values) k (pos 0)) = λ k. search (needs, amount-fits) in
+    change-formed (s .args .header) (s .args .t6) (is-bytes 32 (s .args .t6) (id-long s) (bytes-fit (s .args .t6) (λ k. search needs))) (d .fits)
+    (s .args .n) (s .args .accounts) (s .args .types) (s .args .values)
+    (λ m.
+    items-fit (s .args .accounts) (s .args .types) (s .args .values) 0 (s .args .n) (omega arith) (bytes-fit (s .args .accounts) (λ k. search needs))
+    (λ k. f k .fits) (λ k. fits-money (getD (s .args .values) k (pos 0)) (g k)))
+    (items-length (s .args .accounts) (s .args .types) (s .args .values) 0 (s .args .n))
+
+few : (s : tie.Start) → T (wellFormed (asked s)) → s .args .n ≤ 16
+few s w = count-most (s .args .header) (s .args .n) (sym (formed s) ∙ is-true (wellFormed (asked s)) w)
+
+tested : (c : tie.After-is-count) → (c .before .is-header .result && c .is-count .result) ≡ wellFormed (asked (c .before .before))
+tested c = ap₂ _&&_ (c .before .is-header .ensures) (c .is-count .ensures) ∙ sym (formed (c .before .before))
+
+abbrev entry : tie.After-header-checks → tie.Start
+entry c = c .before .before .before .before .before .before
+
+-- what the header's checks answered
+header-is : (c : tie.After-header-checks) → c .header-checks .result ≡ firstFailure (headerChecks (wellFormed (asked (entry c))) (of (entry c)) (view (entry c)))
+header-is c =
+    let s = entry c in
+    subst (λ b. c .header-checks .result ≡ firstFailure (headerChecks b (of s) (view s))) (tested (c .before .before .before .before)) (c .header-checks .ensures (s .args .days .now))
+
+answered : (c : tie.Joined1) → c .if1 .a ≡ answer (view (entry (c .before))) (lent 0 (asked (entry (c .before))))
+unfolding checks headerChecks
+answered c =
+    let s = entry (c .before) in
+    let f = wellFormed (asked s) in
+    let e = header-is (c .before) in
+    ⊎-elim
+    (λ w.
+    w .3
+    ∙ header-passes (asked s) (of s) (s .args .t) (s .args .ids .now) (s .args .days .now) (s .args .used) f refl (c .before .header-checks .result) e (w .0 .taken) (w .2 .result)
+    (w .2 .ensures ∙ change-rest (s .args .t) (s .args .ids .now) (s .args .days .now) (s .args .used) (of s) (w .1 .result) (items s) (w .1 .ensures (s .args .t6))))
+    (λ w. w .1 ∙ header-fails (asked s) (of s) (s .args .t) (s .args .ids .now) (s .args .days .now) (s .args .used) f refl (c .before .header-checks .result) e (w .0 .left))
+    (c .if1 .came)
+
+accepted : (c : tie.Else2) → answer (view (entry (c .before .before))) (lent 0 (asked (entry (c .before .before)))) ≡ 0
+accepted c = sym (answered (c .before)) ∙ c .if2 .left
+
+placed : (c : tie.Else2) → entry (c .before .before) .args .used < 1024
+unfolding answer checks limitChecks
+placed c =
+    let s = entry (c .before .before) in
+    room (asked s) (of s) (s .args .t) (s .args .ids .now) (s .args .days .now) (s .args .used) (passed 22 (checks (view s) 0 (asked s)) tt (accepted c))
+
+is-header-requires : tie.Need-is-header-requires
+is-header-requires c κs = search needs
+
+is-count-requires : tie.Need-is-count-requires
+is-count-requires c κs = search needs
+
+slice-aggregate-header-checks : tie.Need-slice-aggregate-header-checks
+slice-aggregate-header-checks c = search needs
+
+header-checks-requires : tie.Need-header-checks-requires
+header-checks-requires c κs =
+    let s = c .before .before .before .before .before in
+    (good s, omega (arith, s .pre .few, s .pre .lengths .ids-long), id-long s)
+
+test-items-requires : tie.Need-test-items-requires
+unfolding headerChecks
+test-items-requires c κs =
+    let s = entry (c .before) in (
+      good s,
+      few s (passed 1 (headerChecks (wellFormed (asked s)) (of s) (view s)) tt (sym (header-is (c .before)) ∙ c .if1 .taken)),
+    )
+
+named-checks-requires : tie.Need-named-checks-requires
+named-checks-requires c κs = search needs
+
+returns : tie.Need-returns
+returns c =
+    let s = entry (c .before .before) in
+    settled-no (asked s) (s .args .t) (s .args .ids .now) (s .args .days .now) (s .args .used) (s .pre) (c .before .if1 .a) (answered (c .before)) (c .if2 .taken)
+
+set-items-requires : tie.Need-set-items-requires
+unfolding answer checks limitChecks
+set-items-requires c κs =
+    let s = entry (c .before .before) in
+    (good s, few s (passed 1 (checks (view s) 0 (asked s)) tt (accepted c)))
+
+slice-aggregate-add-id : tie.Need-slice-aggregate-add-id
+slice-aggregate-add-id c = sym (id-long (entry (c .before .before .before .before .before .before)))
+
+add-id-requires : tie.Need-add-id-requires
+add-id-requires c κs =
+    let s = entry (c .before .before .before .before .before .before) in
+    (placed (c .before .before .before .before), s .pre .lengths, id-long s)
+
+add-more : tie.Need-add-more
+add-more c = omega (arith, placed (c .before .before .before .before .before))
+
+returns-2 : tie.Need-returns-2
+unfolding toHeader effect viewOf
+returns-2 c =
+    let s = entry (c .before .before .before .before .before .before .before) in
+    let u = c .before .before .before .before .set-items in
+    taken (asked s) (of s) (s .args .t) (s .args .ids .now) (s .args .days .now) (s .args .used) (s .pre) (u .result) (setItems (of s) (items s) (accountsOf (s .args .t))) _ _
+    (accepted (c .before .before .before .before .before)) (placed (c .before .before .before .before .before)) (u .ensures (s .args .t6)) (c .add-id .ensures) refl
+
+pub change-spec : {M : Type 1} → statement M
+change-spec =
+    tie.close
+    (tie.spec
+    is-header-requires
+    is-count-requires
+    slice-aggregate-header-checks
+    header-checks-requires
+    test-items-requires
+    named-checks-requires
+    returns
+    set-items-requires
+    slice-aggregate-add-id
+    add-id-requires
+    add-more
+    returns-2)

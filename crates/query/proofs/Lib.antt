@@ -1,0 +1,3 @@
+pub mod Ids
+pub mod Blocks
+pub mod Laws

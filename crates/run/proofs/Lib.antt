@@ -1,0 +1,4 @@
+pub mod Sequence
+pub mod Laws
+pub mod Program
+pub mod Theorem

@@ -1,0 +1,38 @@
+-- What a run over a text does. Assumes nothing.
+use mathlib.Core.Path.{_≡_}
+use mathlib.Core.Logic.{_⊎_}
+use mathlib.Core.List.{List, [], _++_}
+use Prim.Native.Nat.{ℕ, _+_, _≤_, _<_}
+use lib.ListN.{length, take, drop}
+use Rattle.octets.specs.Octets.{write}
+use Rattle.rules.specs.Machine.{Machine}
+use Rattle.table.specs.declared.Table.{Table}
+use Rattle.promise.specs.Promise.{Sound}
+use Rattle.promise.specs.View.{viewOf}
+use Rattle.text.specs.Text.{lineLength, wholeLines, joined}
+use Rattle.run.specs.declared.Ran.{Ran}
+use Rattle.run.specs.Lines.{played, printedLines}
+
+-- the end of the line from `from` on, where there is one and room for the longest answer line: 2 digits, 2 for each of 913 bytes, the end
+pub record NextIs (input : List ℕ) (from room r : ℕ) : Type 0 where
+  pub within : r ≤ length input
+  pub found : r < length input → (r ≡ from + lineLength (drop from input)) × (1829 ≤ room)
+  pub done : length input ≤ r → (wholeLines (drop from input) ≡ []) ⊎ (room < 1829)
+
+-- lines were played from the machine m on: with their ends they are what was read; they are the text's first whole lines, and the others are behind
+-- them; the record is the machine after them; their answer lines are written over the buffer from byte 0 on, and its other bytes stay
+pub record Passed (m : Machine) (input out : List ℕ) (t : Table) (ids days : List ℕ) (used read written : ℕ) (out′ : List ℕ) : Type 0 where
+  pub lines : List (List ℕ)
+  pub sound : Sound t ids days used
+  pub within : read ≤ length input
+  pub text : joined lines ≡ take read input
+  pub rest : wholeLines input ≡ lines ++ wholeLines (drop read input)
+  pub state : viewOf t ids days used ≡ played m lines
+  pub room : written ≤ length out
+  pub bytes : out′ ≡ write out 0 (printedLines m lines)
+  pub long : length (printedLines m lines) ≡ written
+
+-- all whole lines were played, or so many that the longest answer line has no room behind what is written
+pub record RanIs (t : Table) (ids days : List ℕ) (used : ℕ) (input out : List ℕ) (r : Ran) (ids′ days′ out′ : List ℕ) : Type 0 where
+  pub passed : Passed (viewOf t ids days used) input out (r .table) ids′ days′ (r .used) (r .read) (r .written) out′
+  pub stop : (wholeLines (drop (r .read) input) ≡ []) ⊎ (length out < r .written + 1829)

@@ -1,0 +1,64 @@
+// Lines of a text, and the writing of an answer line.
+ghost use mathlib.Core.Path.{_≡_};
+ghost use Prim.Native.Nat.{_+_, _*_, _<_, _≤_};
+ghost use lib.ListN.{length, drop, take};
+ghost use Rattle.octets.specs.Octets.{write};
+ghost use Rattle.frame.specs.Hex.{hexDigit, hex};
+ghost use Rattle.text.specs.Text.{lineLength, printed};
+
+// The place of the first line end from `from` on, or the text's length where there is none.
+pub fn line_end(s: &[u8], from: usize) -> usize
+    requires { ⌜ from ≤ length (now s) ⌝ }
+    ensures { λ r. ⌜ r ≡ from + lineLength (drop from (now (s .entry))) ⌝ }
+{
+    let mut i = from;
+    while i < s.len() {
+        if s[i] == 10 {
+            return i;
+        }
+        i += 1;
+    }
+    i
+}
+
+fn hex_digit(n: u8) -> u8
+    requires { ⌜ n < 16 ⌝ }
+    ensures { λ r. ⌜ r ≡ hexDigit n ⌝ }
+{
+    if n < 10 { 48 + n } else { 87 + n }
+}
+
+fn decimal_digit(n: u64) -> u8
+    requires { ⌜ n < 10 ⌝ }
+    ensures { λ r. ⌜ r ≡ 48 + n ⌝ }
+{
+    48 + n as u8
+}
+
+// The report's first n bytes, two digits to a byte, from `at` on.
+fn put_hex(out: &mut [u8], at: usize, report: &[u8], n: usize)
+    requires { ⌜ (at + 2 * n ≤ length (now out)) × (n ≤ length (now report)) ⌝ }
+    ensures { λ _. ⌜ now (out .exit) ≡ write (now (out .entry)) at (hex (take n (now (report .entry)))) ⌝ }
+{
+    let mut i: usize = 0;
+    while i < n {
+        let b = report[i];
+        let p = at + 2 * i;
+        out[p] = hex_digit(b / 16);
+        out[p + 1] = hex_digit(b % 16);
+        i += 1;
+    }
+}
+
+// Writes the answer line of the report's first n bytes from `at` on, and gives the place behind it.
+pub fn write_line(out: &mut [u8], at: usize, answer: u64, report: &[u8], n: usize) -> usize
+    requires { ⌜ (at + (2 * n + 3) ≤ length (now out)) × (answer < 100) × (n ≤ length (now report)) ⌝ }
+    ensures { λ r. ⌜ (now (out .exit) ≡ write (now (out .entry)) at (printed answer (take n (now (report .entry))))) × (r ≡ at + (2 * n + 3)) ⌝ }
+{
+    out[at] = decimal_digit(answer / 10);
+    out[at + 1] = decimal_digit(answer % 10);
+    put_hex(out, at + 2, report, n);
+    let end = at + 2 + 2 * n;
+    out[end] = 10;
+    end + 1
+}
