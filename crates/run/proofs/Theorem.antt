@@ -13,7 +13,7 @@ use Rattle.table.specs.declared.Table.{Table}
 use Rattle.promise.specs.View.{lent, outcomeOf, nextOf}
 use Rattle.run.specs.declared.Ran.{Ran}
 use Rattle.run.specs.Lines.{commandsIn, lineOutcome, lineNext, played, lineOutcomes, printedLines, callFirst, callsIn, outcomeFirst, ofCalls}
-use Rattle.run.specs.Program.{Reached, LinesDemand, RunDemand, Runs}
+use Rattle.run.specs.Program.{Reached, LinesDemand, RunDemand, DemandOfRuns}
 use Rattle.run.specs.Run.{RanIs}
 use Rattle.run.proofs.Program.{wrote, run-reached, runs-reached, runs-printed}
 
@@ -79,6 +79,5 @@ run-demand {before} {out = out} q p =
     }
 
 -- any number of runs from a fresh record on: demand 3 of all lines that they played, and what they wrote are the machine's answers and reports
-pub runs-demand : {t : Table} {ids days : List ℕ} {used : ℕ} {ls : List (List ℕ)} {bytes : List ℕ} → Runs t ids days used ls bytes
-    → (LinesDemand ls t ids days used) × (bytes ≡ printedLines empty ls)
-runs-demand q = (reached-demand (runs-reached q), runs-printed q)
+pub runs-demand : DemandOfRuns
+runs-demand t ids days used ls bytes q = (reached-demand (runs-reached q), runs-printed q)

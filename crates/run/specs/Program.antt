@@ -35,3 +35,9 @@ pub data Runs : Table → List ℕ → List ℕ → ℕ → List (List ℕ) → 
   start : {l : Ledger} → SoundLedger l → ledgerView l ≡ empty → Runs (l .table) (l .book .ids) (l .book .days) (l .book .used) [] []
   then : {t : Table} {ids days : List ℕ} {used : ℕ} {ls : List (List ℕ)} {bytes input out ids′ days′ out′ : List ℕ} {r : Ran} → Runs t ids days used ls bytes
       → (p : RanIs t ids days used input out r ids′ days′ out′) → Runs (r .table) ids′ days′ (r .used) (ls ++ p .passed .lines) (bytes ++ take (r .written) out′)
+
+-- demand 3 of the lines that `run` plays, said once of all of them, in however many runs: and the bytes written are the history machine's answer lines
+abbrev pub DemandOfRuns : Type 0
+DemandOfRuns =
+    (t : Table) (ids days : List ℕ) (used : ℕ) (ls : List (List ℕ)) (bytes : List ℕ) → Runs t ids days used ls bytes
+    → (LinesDemand ls t ids days used) × (bytes ≡ printedLines empty ls)
