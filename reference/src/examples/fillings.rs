@@ -1,0 +1,89 @@
+//! The tops: total of all banks, turnover, book and table.
+
+use super::{example, header, item, query_of, Example, HEAD, NOBODY, POOR, RICH};
+use crate::account::TOP_VALUE;
+use crate::book;
+use crate::ledger::MOST_ACCOUNTS;
+use crate::write::{account_id, bank, branch, change, day_opening, deletion, funding, payment};
+use crate::write::{withdrawal, CREDIT, DEBIT};
+
+/// All states together reach 10^18.
+pub fn total_of_banks() -> Vec<Example> {
+    let opening = [example(0, "bank 900000", bank(RICH))];
+    let fundings = (0..1_000).map(|_| example(0, "funding of 10^15", funding(RICH, TOP_VALUE)));
+    let top = [
+        example(8, "8: 1,001st funding of 10^15", funding(RICH, TOP_VALUE)),
+        example(8, "funding of another bank by 1", funding(HEAD, 1)),
+        example(0, "withdraw 1", withdrawal(RICH, 1)),
+        example(8, "fund 2", funding(HEAD, 2)),
+        example(0, "fund 1", funding(RICH, 1)),
+        example(8, "fund 1 more", funding(RICH, 1)),
+        example(6, "6 before 8", funding(RICH, 0)),
+    ];
+    opening.into_iter().chain(fundings).chain(top).collect()
+}
+
+/// A day's turnover reaches 10^17.
+pub fn turnover() -> Vec<Example> {
+    let pay = |amount| payment(CREDIT, RICH, POOR, amount);
+    let opening = [example(0, "day 10", day_opening(10))];
+    let payments = (0..100).map(|_| example(0, "payment of 10^15", pay(TOP_VALUE)));
+    let top = [
+        example(8, "ICDT and RCDT over 10^17", pay(1)),
+        example(8, "ICDT over 10^17", payment(CREDIT, RICH, HEAD, 1)),
+        example(8, "RCDT over 10^17", payment(CREDIT, HEAD, POOR, 1)),
+        example(11, "11 before 8", payment(CREDIT, 888_012, POOR, 1)),
+        example(0, "a debit", payment(DEBIT, POOR, RICH, TOP_VALUE)),
+        example(0, "credits the other way", payment(CREDIT, POOR, RICH, 1)),
+        example(0, "day 11", day_opening(11)),
+        example(0, "turnovers are 0 again", pay(1)),
+    ];
+    opening.into_iter().chain(payments).chain(top).collect()
+}
+
+/// The book is empty when day 12 opens: its last id was accepted on day 9.
+pub fn book() -> Vec<Example> {
+    let ask = |id: u32, day: u32| query_of(header(HEAD, id, day, 0), &[HEAD]);
+    let queries = (1_000..).take(book::PLACES);
+    let last = 999 + book::PLACES as u32;
+    let new = last + 1;
+    let items = [item(888_001, 1, 0)];
+    let opening = [example(0, "day 12", day_opening(12))];
+    let fillings = queries.map(|id| example(0, "one more id on day 12", ask(id, 12)));
+    let top = [
+        example(22, "22: 1,025th id in a day", ask(new, 12)),
+        example(22, "a change", change(&header(HEAD, new, 12, 0), &items)),
+        example(
+            22,
+            "a deletion",
+            deletion(&header(HEAD, new, 12, 0), &account_id(888_001), 1),
+        ),
+        example(14, "14 before 22", ask(last, 12)),
+        example(
+            21,
+            "21 before 22",
+            query_of(header(HEAD, new, 12, 0), &[NOBODY]),
+        ),
+        example(0, "day 13", day_opening(13)),
+        example(22, "the ids of day 12 stay", ask(new, 13)),
+        example(0, "day 14", day_opening(14)),
+        example(0, "the ids of day 12 left", ask(new, 14)),
+    ];
+    opening.into_iter().chain(fillings).chain(top).collect()
+}
+
+/// 17 accounts stand; the table is filled with banks.
+pub fn table() -> Vec<Example> {
+    const STANDING: usize = 17;
+    let banks = (100_000..).take(MOST_ACCOUNTS - STANDING);
+    let openings = banks.map(|code| example(0, "one more bank", bank(code)));
+    let top = [
+        example(3, "3: 65th account", bank(200_000)),
+        example(3, "65th account a branch", branch(200_000, HEAD, [0, 0])),
+        example(2, "2 before 3", bank(HEAD)),
+        example(4, "4 before 3", branch(200_000, 200_001, [0, 0])),
+        example(5, "5 before 3", branch(200_000, 888_001, [0, 0])),
+        example(0, "last line, without its end", day_opening(15)),
+    ];
+    openings.chain(top).collect()
+}

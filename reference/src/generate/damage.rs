@@ -1,0 +1,156 @@
+//! Lines that are no frames, or hardly so.
+
+use super::scenario::Scenario;
+use crate::frame::LONGEST_LINE;
+use crate::write;
+
+/// Where each part of a limit message stands.
+const SECOND: usize = 43;
+const COUNT: usize = 47;
+
+impl Scenario {
+    /// A line made from a good frame by one damage.
+    pub fn damaged(&mut self, mut frame: Vec<u8>) -> Vec<u8> {
+        if self.random.percent(3) {
+            return self.full_change_and_more();
+        }
+        if self.random.percent(50) {
+            self.damage_frame(&mut frame);
+            return write::line(&frame);
+        }
+        let mut line = write::line(&frame);
+        self.damage_line(&mut line);
+        line
+    }
+
+    fn damage_frame(&mut self, frame: &mut Vec<u8>) {
+        match self.random.below(8) {
+            0 => frame[0] = self.random.pick(&[0, 0x0b, 0x10, 0xff]),
+            1 => frame[0] = 1 + self.random.below(10) as u8,
+            2 => frame.push(self.random.byte()),
+            3 => frame.truncate(self.random.below(frame.len() + 1)),
+            4 => frame.extend(frame.clone()),
+            _ => self.damage_field(frame),
+        }
+    }
+
+    /// Makes a field wrong that the frame's kind has.
+    fn damage_field(&mut self, frame: &mut [u8]) {
+        let kind = frame[0];
+        let codes: &[usize] = match kind {
+            0x02 => &[1, 7],
+            0x06 => &[2, 8],
+            0x0a => &[],
+            _ => &[1],
+        };
+        if !codes.is_empty() && self.random.percent(40) {
+            let digit = self.random.pick(codes) + self.random.below(6);
+            frame[digit] = self.random.pick(b"/:aF \x00\x01\xb8");
+            return;
+        }
+        let wrong = |frame: &mut [u8], place: usize, value: u8| {
+            if let Some(byte) = frame.get_mut(place) {
+                *byte = value;
+            }
+        };
+        match kind {
+            0x02 => {
+                let method = 13 + self.random.below(2);
+                wrong(frame, method, self.random.pick(&[4, 5, 0x31, 255]));
+            }
+            0x06 => wrong(frame, 1, self.random.pick(&[2, 3, 0x30, 255])),
+            0x07 | 0x09 if self.random.percent(50) => {
+                let count = frame[COUNT];
+                let counts = [0, 17, 255, count.wrapping_sub(1), count + 1, count + 16];
+                frame[COUNT] = self.random.pick(&counts);
+            }
+            0x07..=0x09 => {
+                let second: u32 = self.random.pick(&[86_400, 86_401, 1 << 24, u32::MAX]);
+                frame[SECOND..SECOND + 4].copy_from_slice(&second.to_be_bytes());
+            }
+            _ => wrong(frame, 1, 0x2f),
+        }
+    }
+
+    fn damage_line(&mut self, line: &mut Vec<u8>) {
+        let place = self.random.below(line.len());
+        match self.random.below(12) {
+            0 => line.clear(),
+            1 => line.make_ascii_uppercase(),
+            2 => {
+                line.remove(place);
+            }
+            3 => line.insert(place, b'0'),
+            4 => line[place] = self.no_end(),
+            5 => line[place] = self.random.pick(b"gG/:@`ABCDEF \t\0"),
+            6 => line.push(b'\r'),
+            7 => line.push(b' '),
+            8 => line.insert(0, b' '),
+            9 => line.splice(0..0, *b"0x").for_each(drop),
+            10 => {
+                let surplus = self.random.below(6);
+                line.resize(LONGEST_LINE - 2 + surplus, b'0');
+            }
+            _ => {
+                let length = match self.random.below(20) {
+                    0 => 200_000,
+                    _ => 1_000 + self.random.below(9_000),
+                };
+                line.resize(length, b'a');
+            }
+        }
+    }
+
+    /// The longest frame, good by itself, with more digits behind it.
+    fn full_change_and_more(&mut self) -> Vec<u8> {
+        let mut line = write::line(&self.full_change());
+        let surplus = match self.random.below(6) {
+            0 => 1,
+            1 => 2,
+            2 => 38,
+            3 | 4 => self.random.below(2_000),
+            _ => 300_000,
+        };
+        line.resize(line.len() + surplus, b'0');
+        line
+    }
+
+    /// Bytes or digits without any plan.
+    pub fn noise(&mut self) -> Vec<u8> {
+        let length = match self.random.below(10) {
+            0 => 0,
+            1..9 => self.random.below(60),
+            _ => self.random.below(1_500),
+        };
+        match self.random.below(3) {
+            0 => (0..length).map(|_| self.no_end()).collect(),
+            1 => (0..length)
+                .map(|_| self.random.pick(b"0123456789abcdef"))
+                .collect(),
+            _ => self.random_frame(),
+        }
+    }
+
+    /// A frame of right kind and length with random bytes in it.
+    fn random_frame(&mut self) -> Vec<u8> {
+        const LENGTHS: [usize; 10] = [7, 15, 15, 15, 23, 22, 67, 58, 58, 5];
+        let kind = self.random.below(10);
+        let mut frame: Vec<u8> = (0..LENGTHS[kind]).map(|_| self.random.byte()).collect();
+        frame[0] = kind as u8 + 1;
+        if self.random.percent(50) {
+            let first_code = if frame[0] == 0x06 { 2 } else { 1 };
+            for byte in frame.iter_mut().skip(first_code).take(12) {
+                *byte = b'0' + *byte % 10;
+            }
+        }
+        write::line(&frame)
+    }
+
+    /// Any byte but the end of a line.
+    fn no_end(&mut self) -> u8 {
+        match self.random.byte() {
+            b'\n' => b'\r',
+            byte => byte,
+        }
+    }
+}
