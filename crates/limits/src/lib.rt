@@ -1,94 +1,24 @@
 // Kinds 07 and 08 as whole calls: the number of the first check that fails with the very same table and book, or 0 with the limits changed and the
 // message's id in the book.
-ghost use mathlib.Core.Path.{_≡_};
-ghost use mathlib.Core.Bool.{_&&_};
-ghost use mathlib.Core.List.{List};
-ghost use Prim.Native.Nat.{ℕ, _*_, _≤_};
-ghost use lib.ListN.{length};
-ghost use lib.Dec.{leb};
 ghost use Rattle.octets.specs.Octets.{part};
-ghost use Rattle.rules.specs.Command.{Change, Deletion, isCode};
-ghost use Rattle.rules.specs.Machine.{firstFailure};
+ghost use Rattle.rules.specs.Command.{Change, Deletion};
 ghost use Rattle.command.specs.View.{toHeader, itemsFrom};
-ghost use Rattle.table.specs.Promise.{Good};
-ghost use Rattle.promise.specs.View.{viewOf};
 ghost use Rattle.promise.specs.Promise.{Sound, Settled};
-ghost use Rattle.limits.specs.Parts.{headerChecks, namedChecks};
-use account::is_bank;
 use book::add_id;
-use book::has_id;
+use changes::delete_limit;
+use changes::set_items;
 use command::Header;
-use items::Flags;
-use items::delete_limit;
-use items::has_branch;
-use items::set_items;
+use header::header_checks;
+use header::is_header;
+use header::named_checks;
 use items::test_items;
 use items::test_limit;
-use message::is_current;
-use message::is_message_id;
 use message::named;
 use promise::Noted;
-use rules::first;
-use rules::is_code;
 use rules::is_count;
 use table::Table;
 use table::place;
 use table::slot;
-
-// ---- the checks of both kinds
-
-// Whether a header is in range: its id and its day always are.
-fn is_header(header: Header) -> bool
-    ensures { λ r. ⌜ r ≡ (isCode (header .sender) && leb (header .second) 86399) ⌝ }
-{
-    is_code(header.sender) & (header.second <= 86_399)
-}
-
-// Checks 1, 4, 14, 15, 16 and 17, whatever the days in the book are.
-fn header_checks(formed: bool, t: Table, ids: &[u8], used: usize, header: Header, id: &[u8]) -> u64
-    requires { ⌜ (Good t) × (used * 32 ≤ length (now ids)) × (length (now id) ≡ 32) ⌝ }
-    ensures { λ r. ⌜ ((days : List ℕ) → r ≡ firstFailure (headerChecks formed (toHeader header (now (id .entry))) (viewOf t (now (ids .entry)) days used))) ⌝ }
-{
-    let sender = header.sender;
-    let count = t.count;
-    let i = place(&t.codes, count, sender);
-    let j = slot(i);
-    let x = t.accounts[j];
-    let kept = has_id(ids, used, id);
-    let head = is_bank(x) & has_branch(t, sender);
-    let right = is_message_id(id);
-    let current = is_current(t.day, header.day);
-    first(
-        formed,
-        1,
-        first(
-            i < count,
-            4,
-            first(
-                !kept,
-                14,
-                first(head, 15, first(right, 16, first(current, 17, 0))),
-            ),
-        ),
-    )
-}
-
-// Checks 18, 19, 20, 6 and 22. A deletion has no value, so 6 passes.
-fn named_checks(f: Flags, used: usize) -> u64
-    ensures { λ r. ⌜ r ≡ firstFailure (namedChecks f used) ⌝ }
-{
-    first(
-        f.later,
-        18,
-        first(
-            f.typed,
-            19,
-            first(f.owned, 20, first(f.ranged, 6, first(used < 1024, 22, 0))),
-        ),
-    )
-}
-
-// ---- the calls
 
 // 07. The items are looked at only once the header has passed: then there are at most 16.
 pub fn change(

@@ -23,7 +23,7 @@ use Rattle.book.proofs.Laws.{entries-length}
 use Rattle.promise.specs.View.{viewOf, lent, outcomeOf, nextOf}
 use Rattle.promise.specs.Promise.{Sound, Played}
 use Rattle.promise.proofs.Laws.{unchanged, next-sound, next-effect, noted}
-use Rattle.query.specs.Written.{Written}
+use Rattle.blocks.specs.Written.{Written}
 
 take-none : (l : List ℕ) → take 0 l ≡ []
 take-none [] = refl

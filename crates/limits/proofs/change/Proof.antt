@@ -24,8 +24,8 @@ use Rattle.table.specs.View.{accountsOf}
 use Rattle.table.specs.Promise.{Good}
 use Rattle.promise.specs.View.{viewOf, lent}
 use Rattle.promise.proofs.Laws.{good-table, settled-no}
-use Rattle.limits.specs.Parts.{headerChecks}
-use Rattle.limits.proofs.Parts.{change-rest}
+use Rattle.header.specs.Parts.{headerChecks}
+use Rattle.header.proofs.Parts.{change-rest}
 use Rattle.limits.proofs.Calls.{header-fails, header-passes, room, taken}
 use Rattle.limits.proofs.change.Statement.{statement}
 use Rattle.limits.proofs.change.Tie as tie

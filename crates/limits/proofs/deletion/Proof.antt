@@ -25,8 +25,8 @@ use Rattle.table.proofs.Places.{length-mapped}
 use Rattle.items.proofs.Laws.{limit-tested}
 use Rattle.promise.specs.View.{viewOf, lent}
 use Rattle.promise.proofs.Laws.{good-table, settled-no}
-use Rattle.limits.specs.Parts.{headerChecks}
-use Rattle.limits.proofs.Parts.{deletion-rest}
+use Rattle.header.specs.Parts.{headerChecks}
+use Rattle.header.proofs.Parts.{deletion-rest}
 use Rattle.limits.proofs.Calls.{header-fails, header-passes, room, taken}
 use Rattle.limits.proofs.deletion.Statement.{statement}
 use Rattle.limits.proofs.deletion.Tie as tie

@@ -23,7 +23,7 @@ use Rattle.table.proofs.Found.{place-known}
 use Rattle.table.proofs.Places.{length-mapped}
 use Rattle.promise.specs.View.{viewOf, lent}
 use Rattle.promise.proofs.Laws.{good-table}
-use Rattle.query.proofs.Blocks.{report-most, report-written}
+use Rattle.blocks.proofs.Blocks.{report-most, report-written}
 use Rattle.query.proofs.Laws.{played-no, played-yes, early-checks, late-checks, early-refused, late-answer, early-room, room}
 use Rattle.query.proofs.query.Statement.{statement}
 use Rattle.query.proofs.query.Tie as tie

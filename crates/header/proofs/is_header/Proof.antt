@@ -3,8 +3,8 @@ use borrow.Author.Needs.{needs}
 use mathlib.Core.Path.{ap}
 use mathlib.Core.Bool.{Bool, _&&_}
 use lib.Dec.{leb}
-use Rattle.limits.proofs.is_header.Statement.{statement}
-use Rattle.limits.proofs.is_header.Tie as tie
+use Rattle.header.proofs.is_header.Statement.{statement}
+use Rattle.header.proofs.is_header.Tie as tie
 
 is-code-requires : tie.Need-is-code-requires
 is-code-requires c κs = search needs

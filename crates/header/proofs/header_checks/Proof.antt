@@ -3,9 +3,9 @@ use borrow.Author.Needs.{needs}
 use mathlib.Core.Path.{_≡_}
 use lib.ListN.{length}
 use Rattle.table.proofs.Places.{length-mapped}
-use Rattle.limits.proofs.Parts.{header-answer}
-use Rattle.limits.proofs.header_checks.Statement.{statement}
-use Rattle.limits.proofs.header_checks.Tie as tie
+use Rattle.header.proofs.Parts.{header-answer}
+use Rattle.header.proofs.header_checks.Statement.{statement}
+use Rattle.header.proofs.header_checks.Tie as tie
 
 long : (s : tie.Start) → length (s .args .t2 .accounts) ≡ 64
 long s = search (needs, length-mapped)

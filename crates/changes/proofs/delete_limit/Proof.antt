@@ -9,9 +9,9 @@ use Rattle.rules.proofs.Ledger.{quiet-touch}
 use Rattle.command.specs.View.{toHeader}
 use Rattle.table.proofs.Places.{length-mapped}
 use Rattle.table.proofs.Stored.{stored-none}
-use Rattle.items.proofs.Sets.{one-changed, none-changed, stored-holds}
-use Rattle.items.proofs.delete_limit.Statement.{statement}
-use Rattle.items.proofs.delete_limit.Tie as tie
+use Rattle.changes.proofs.Sets.{one-changed, none-changed, stored-holds}
+use Rattle.changes.proofs.delete_limit.Statement.{statement}
+use Rattle.changes.proofs.delete_limit.Tie as tie
 
 long : (s : tie.Start) → length (s .args .t1 .accounts) ≡ 64
 long s = search (needs, length-mapped)

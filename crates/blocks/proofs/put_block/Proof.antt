@@ -4,8 +4,8 @@ use mathlib.Core.Path.{refl}
 use Rattle.account.specs.View.{toAccount}
 use Rattle.report.proofs.Laws.{length-account}
 use borrow.Author.Needs.{needs}
-use Rattle.query.proofs.put_block.Statement.{statement}
-use Rattle.query.proofs.put_block.Tie as tie
+use Rattle.blocks.proofs.put_block.Statement.{statement}
+use Rattle.blocks.proofs.put_block.Tie as tie
 
 put-account-requires : tie.Need-put-account-requires
 put-account-requires c κs =

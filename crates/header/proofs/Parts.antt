@@ -25,7 +25,7 @@ use Rattle.promise.specs.View.{viewOf}
 use Rattle.items.specs.declared.Flags.{Flags}
 use Rattle.items.specs.Items.{Flagged, Named}
 use Rattle.items.proofs.Laws.{items-checked, limit-checked}
-use Rattle.limits.specs.Parts.{headerChecks, namedChecks}
+use Rattle.header.specs.Parts.{headerChecks, namedChecks}
 
 -- ---- a code looked for in the table: its place is i, and the account was read at j
 

@@ -2,7 +2,7 @@
 use mathlib.Core.Path.{_≡_, refl, sym, ap, _∙_, subst}
 use mathlib.Core.Bool.{Bool, true, false, cond, _||_}
 use mathlib.Core.List.{List, [], _∷_, _++_, append-assoc, append-nil}
-use Prim.Native.Nat.{ℕ, _+_, _*_, _≤_, _<_}
+use Prim.Native.Nat.{ℕ, zero, suc, _+_, _*_, _≤_, _<_}
 use native.Mathlib.Omega.{arith}
 use native.Mathlib.Numerals.{add-one}
 use borrow.Author.Tests.{ltb-true}
@@ -26,8 +26,7 @@ use Rattle.table.specs.View.{accountsOf, machineOf, placeOf}
 use Rattle.table.specs.Promise.{Good, Slot}
 use Rattle.table.proofs.Called.{every-sized, place-has}
 use Rattle.table.proofs.Found.{place-is, place-known, account-at}
-use Rattle.query.specs.Written.{Written, Reportable}
-use Rattle.query.proofs.Ids.{ids-behind}
+use Rattle.blocks.specs.Written.{Written, Reportable}
 
 -- ---- lengths
 
@@ -50,6 +49,15 @@ pub report-most : (s : ℕ) (xs : List Rule.Account) (a : List ℕ) (n : ℕ) �
 report-most s xs a n h = omega (arith, blocks-most s xs (idsFrom 0 n a), ids-length a 0 n)
 
 -- ---- one after the other
+
+-- one id more at the end
+ids-behind : (a : List ℕ) (i n : ℕ) → idsFrom i (suc n) a ≡ idsFrom i n a ++ (part ((i + n) * 10) 10 a ∷ [])
+unfolding idsFrom
+ids-behind a i zero = let e : i ≡ i + 0 = omega arith in ap (λ (j : ℕ). part (j * 10) 10 a ∷ []) e
+ids-behind a i (suc n) =
+    let e : suc i + n ≡ i + suc n = omega arith in
+    ap (λ (l : List (List ℕ)). part (i * 10) 10 a ∷ l) (ids-behind a (suc i) n)
+    ∙ ap (λ (j : ℕ). part (i * 10) 10 a ∷ (idsFrom (suc i) n a ++ (part (j * 10) 10 a ∷ []))) e
 
 blocks-behind : (s : ℕ) (xs : List Rule.Account) (is : List (List ℕ)) (i : List ℕ) → blocks s xs (is ++ (i ∷ [])) ≡ blocks s xs is ++ block s xs (named i)
 unfolding blocks

@@ -9,10 +9,10 @@ use Rattle.rules.specs.Report.{block, blocks}
 use Rattle.command.specs.View.{idsFrom}
 use Rattle.table.specs.View.{accountsOf}
 use Rattle.table.proofs.Places.{length-mapped}
-use Rattle.query.specs.Written.{Written}
-use Rattle.query.proofs.Blocks.{report-none, report-room, report-more, report-whole, place-reportable, place-block}
-use Rattle.query.proofs.put_report.Statement.{statement}
-use Rattle.query.proofs.put_report.Tie as tie
+use Rattle.blocks.specs.Written.{Written}
+use Rattle.blocks.proofs.Blocks.{report-none, report-room, report-more, report-whole, place-reportable, place-block}
+use Rattle.blocks.proofs.put_report.Statement.{statement}
+use Rattle.blocks.proofs.put_report.Tie as tie
 
 abbrev Inv-loop : tie.InvT-loop
 Inv-loop sender n out₀ t accounts count head at₀ k₀ out at k =
