@@ -14,7 +14,7 @@ use account::Account;
 use account::is_owned_by;
 use message::named;
 use report::put_account;
-use report::put_byte;
+use report_line::put_byte;
 use table::Table;
 use table::place;
 use table::slot;

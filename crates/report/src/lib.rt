@@ -1,184 +1,21 @@
 // What the report of a query says of one account.
 ghost use mathlib.Core.Path.{_≡_};
-ghost use mathlib.Core.Bool.{true};
 ghost use mathlib.Core.List.{[], _∷_, _++_};
-ghost use Prim.Native.Nat.{_+_, _≤_, _<_, _^_};
-ghost use lib.IntN.{pos, natAbs};
+ghost use Prim.Native.Nat.{_+_, _≤_};
 ghost use lib.ListN.{length};
 ghost use lib.Dec.{T};
-ghost use lib.Signed.{ltZ};
 ghost use Rattle.octets.specs.Octets.{write};
-ghost use Rattle.rules.specs.Account as Rule;
 ghost use Rattle.rules.specs.Report as Report;
 ghost use Rattle.rules.specs.Invariant.{Sized, limitOk};
-ghost use Rattle.account.specs.View.{toAccount, toLimit};
-ghost use Rattle.report.specs.Lines.{toLine};
+ghost use Rattle.account.specs.View.{toAccount};
+ghost use Rattle.report_line.specs.Lines.{toLine};
 use account::Account;
-use account::Limit;
-use amount::percent;
-use amount::size;
 use holding::state_of;
-use octets::put_i64;
-use octets::put_u16;
-
-// What is said of one limit.
-struct Line {
-    closed: u8,
-    value: i64,
-    mark: u8,
-    used: i64,
-    left: i64,
-    percent: u16,
-}
-
-// ---- bytes
-
-pub fn put_byte(s: &mut [u8], at: usize, b: u8)
-    requires { ⌜ at < length (now s) ⌝ }
-    ensures { λ _. ⌜ now (s .exit) ≡ write (now (s .entry)) at (b ∷ []) ⌝ }
-{
-    s[at] = b;
-}
-
-fn put_line(s: &mut [u8], at: usize, l: Line)
-    requires { ⌜ at + 28 ≤ length (now s) ⌝ }
-    ensures { λ _. ⌜ now (s .exit) ≡ write (now (s .entry)) at (Report.lineBytes (toLine l)) ⌝ }
-{
-    let closed = l.closed;
-    let value = l.value;
-    let mark = l.mark;
-    let used = l.used;
-    let left = l.left;
-    let percent = l.percent;
-    put_byte(s, at, closed);
-    put_i64(s, at + 1, value);
-    put_byte(s, at + 9, mark);
-    put_i64(s, at + 10, used);
-    put_i64(s, at + 18, left);
-    put_u16(s, at + 26, percent);
-}
-
-// ---- lines
-
-fn closed_line() -> Line
-    ensures { λ r. ⌜ toLine r ≡ Report.closedLine ⌝ }
-{
-    Line {
-        closed: 1,
-        value: 0,
-        mark: 0,
-        used: 0,
-        left: 0,
-        percent: 0,
-    }
-}
-
-// Of a limit that is not in use.
-fn idle_line(v: i64) -> Line
-    ensures { λ r. ⌜ toLine r ≡ Report.idleLine v ⌝ }
-{
-    Line {
-        closed: 0,
-        value: v,
-        mark: 0,
-        used: 0,
-        left: 0,
-        percent: 0,
-    }
-}
-
-// Of a limit in use, of which no more is used than there is.
-fn busy_line(v: i64, used: i64, left: i64) -> Line
-    requires { ⌜ (natAbs used ≤ natAbs v) × (natAbs v ≤ 10 ^ 15) × (0 < natAbs v) ⌝ }
-    ensures { λ r. ⌜ toLine r ≡ Report.busyLine v used left ⌝ }
-{
-    let share = percent(used, v) as u16;
-    Line {
-        closed: 0,
-        value: v,
-        mark: 1,
-        used: used,
-        left: left,
-        percent: share,
-    }
-}
-
-// ---- LTK at a state
-
-fn ltk_used(v: i64, s: i64) -> i64
-    ensures { λ r. ⌜ r ≡ Report.ltkUsed v s ⌝ }
-{
-    if 0 <= s {
-        0
-    } else if s <= v {
-        v
-    } else {
-        s
-    }
-}
-
-fn ltk_left(v: i64, s: i64) -> i64
-    requires { ⌜ (natAbs v ≤ 10 ^ 15) × (natAbs s ≤ 10 ^ 18) ⌝ }
-    ensures { λ r. ⌜ r ≡ Report.ltkLeft v s ⌝ }
-{
-    if s <= v { 0 } else { s - v }
-}
-
-fn ltk_value(v: i64, s: i64) -> Line
-    requires { ⌜ (natAbs v ≤ 10 ^ 15) × (natAbs s ≤ 10 ^ 18) ⌝ }
-    ensures { λ r. ⌜ toLine r ≡ Report.ltkLine (Rule.Value v) s ⌝ }
-{
-    if v < 0 {
-        let used = ltk_used(v, s);
-        let left = ltk_left(v, s);
-        busy_line(v, used, left)
-    } else {
-        idle_line(v)
-    }
-}
-
-fn ltk_line(l: Limit, s: i64) -> Line
-    requires { ⌜ (T (limitOk (toLimit l))) × (natAbs s ≤ 10 ^ 18) ⌝ }
-    ensures { λ r. ⌜ toLine r ≡ Report.ltkLine (toLimit l) s ⌝ }
-{
-    match l {
-        Limit::Value(v) => ltk_value(v, s),
-        Limit::Closed => closed_line(),
-    }
-}
-
-// ---- LPO at an ICDT
-
-fn lpo_used(v: i64, n: u64) -> i64
-    requires { ⌜ ltZ (pos 0) v ≡ true ⌝ }
-    ensures { λ r. ⌜ r ≡ Report.lpoUsed v n ⌝ }
-{
-    if n <= size(v) { n as i64 } else { v }
-}
-
-fn lpo_value(v: i64, n: u64) -> Line
-    requires { ⌜ natAbs v ≤ 10 ^ 15 ⌝ }
-    ensures { λ r. ⌜ toLine r ≡ Report.lpoLine (Rule.Value v) n ⌝ }
-{
-    if 0 < v {
-        let used = lpo_used(v, n);
-        busy_line(v, used, v - used)
-    } else {
-        idle_line(v)
-    }
-}
-
-fn lpo_line(l: Limit, n: u64) -> Line
-    requires { ⌜ T (limitOk (toLimit l)) ⌝ }
-    ensures { λ r. ⌜ toLine r ≡ Report.lpoLine (toLimit l) n ⌝ }
-{
-    match l {
-        Limit::Value(v) => lpo_value(v, n),
-        Limit::Closed => closed_line(),
-    }
-}
-
-// ---- the block
+use report_line::Line;
+use report_line::lpo_line;
+use report_line::ltk_line;
+use report_line::put_byte;
+use report_line::put_line;
 
 fn put_lines(out: &mut [u8], at: usize, ltk: Line, lpo: Line)
     requires { ⌜ at + 57 ≤ length (now out) ⌝ }

@@ -14,7 +14,7 @@ use Rattle.text.specs.Text.{lineLength, push, wholeLines}
 use Rattle.text.proofs.Laws.{length-line, whole-first}
 use Rattle.text.proofs.Chunks.{line-in}
 use Rattle.run.proofs.Program.{front}
-use Rattle.tally.specs.Tally.{cutLength, lastEnd}
+use Rattle.stream.specs.Stream.{cutLength, lastEnd}
 
 -- ---- lengths
 
@@ -36,11 +36,6 @@ cut-most kept = go (ltb kept 65536) refl
     go : (q : Bool) → ltb kept 65536 ≡ q → cond q kept 1024 ≤ kept
     go true e = omega arith
     go false e = omega (arith, ltb-false kept 65536 e)
-
-pub last-end : (kept : ℕ) → ¬ (kept ≡ 0) → lastEnd kept ≡ 10 ∷ []
-unfolding lastEnd
-last-end zero h = absurd (h refl)
-last-end (suc n) h = refl
 
 pub last-within : (kept : ℕ) → kept < 65536 → kept + length (lastEnd kept) ≤ 65536
 unfolding lastEnd

@@ -13,8 +13,8 @@ use field_writer::put_code;
 use message_writer::write_change;
 use message_writer::write_deletion;
 use message_writer::write_query;
-use octets::put_i64;
-use octets::put_u32;
+use octet_writer::put_i64;
+use octet_writer::put_u32;
 use rules::is_code;
 use rules::is_method;
 

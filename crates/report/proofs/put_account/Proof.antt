@@ -3,7 +3,7 @@ use Rattle.amount.proofs.Integer.{back}
 use Rattle.rules.specs.Account.{state}
 use Rattle.account.specs.View.{toAccount, toTurnovers}
 use Rattle.rules.specs.Report as Report
-use Rattle.report.specs.Lines.{toLine}
+use Rattle.report_line.specs.Lines.{toLine}
 use borrow.Author.Needs.{needs}
 use Rattle.report.proofs.put_account.Statement.{statement}
 use Rattle.report.proofs.put_account.Tie as tie

@@ -1,4 +1,4 @@
-use Rattle.report.specs.Lines.{toLine}
+use Rattle.report_line.specs.Lines.{toLine}
 use Rattle.report.proofs.Laws.{account-written}
 use borrow.Author.Needs.{needs}
 use Rattle.report.proofs.put_lines.Statement.{statement}

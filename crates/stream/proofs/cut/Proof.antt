@@ -1,0 +1,15 @@
+use borrow.Author.Tests.{lt-ltb, le-ltb}
+use Rattle.stream.specs.Stream.{cutLength}
+use Rattle.stream.proofs.cut.Statement.{statement}
+use Rattle.stream.proofs.cut.Tie as tie
+
+returns : tie.Need-returns
+unfolding cutLength
+returns c = simp (lt-ltb _ _ (c .if1 .taken))
+
+returns-2 : tie.Need-returns-2
+unfolding cutLength
+returns-2 c = simp (le-ltb _ _ (c .if1 .left))
+
+pub cut-spec : {M : Type 1} → statement M
+cut-spec = tie.close (tie.spec returns returns-2)
