@@ -1,8 +1,8 @@
--- Laws of draining a text, and of the end that its last line lacks. Assumes nothing.
+-- Laws of draining a text. Assumes nothing.
 use mathlib.Core.Path.{_≡_, refl, sym, ap, ap₂, _∙_}
 use mathlib.Core.Logic.{⊎-elim}
-use mathlib.Core.List.{List, [], _∷_, _++_, append-assoc}
-use Prim.Native.Nat.{ℕ, zero, suc, _+_, _-_, _≤_}
+use mathlib.Core.List.{List, [], _++_, append-assoc}
+use Prim.Native.Nat.{ℕ, _+_, _-_, _≤_}
 use native.Mathlib.Omega.{arith}
 use lib.ListN.{length, take, drop, length-drop}
 use lib.Seq.{take-all, take-add, drop-drop}
@@ -17,9 +17,7 @@ use Rattle.run.specs.declared.Ran.{Ran}
 use Rattle.run.specs.Lines.{played, lineOutcomes, printedAll, printedLines}
 use Rattle.run.specs.Run.{RanIs}
 use Rattle.run.proofs.Sequence.{played-append}
-use Rattle.stream.specs.Stream.{Upto, lastEnd}
-
--- ---- draining
+use Rattle.stream.specs.Stream.{Upto}
 
 pub begin : (text : List ℕ) (t : Table) (ids days : List ℕ) (used : ℕ) → Sound t ids days used → Upto (viewOf t ids days used) text t ids days used 0
 unfolding joined played
@@ -62,10 +60,3 @@ module _ (m : Machine) (text : List ℕ) (t : Table) (ids days : List ℕ) (used
 
   pub same : r .read ≡ 0 → Upto m text (r .table) ids′ days′ (r .used) read
   same e = let z : read + r .read ≡ read = omega arith in rw z at more
-
--- ---- the last line
-
-pub last-end : (kept : ℕ) → ¬ (kept ≡ 0) → lastEnd kept ≡ 10 ∷ []
-unfolding lastEnd
-last-end zero h = absurd (h refl)
-last-end (suc n) h = refl

@@ -1,9 +1,8 @@
 -- What the program does with the text that it has read. Assumes nothing.
 use mathlib.Core.Path.{_≡_}
-use mathlib.Core.Bool.{true, cond}
-use mathlib.Core.List.{List, [], _∷_, _++_}
-use Prim.Native.Nat.{ℕ, zero, suc, _≤_}
-use lib.Dec.{ltb}
+use mathlib.Core.Bool.{true}
+use mathlib.Core.List.{List, [], _++_}
+use Prim.Native.Nat.{ℕ, _≤_}
 use lib.ListN.{length, take, drop}
 use Rattle.rules.specs.Machine.{Machine}
 use Rattle.table.specs.declared.Table.{Table}
@@ -27,12 +26,3 @@ pub record Upto (m : Machine) (text : List ℕ) (t : Table) (ids days : List ℕ
 pub record DrainedIs (t : Table) (ids days : List ℕ) (used : ℕ) (text : List ℕ) (r : Drained) (ids′ days′ : List ℕ) : Type 0 where
   pub upto : Upto (viewOf t ids days used) text (r .table) ids′ days′ (r .used) (r .read)
   pub all : r .ok ≡ true → wholeLines (drop (r .read) text) ≡ []
-
--- how much of what is kept stays: of a line that fills the buffer its first 1,024 bytes, which hold no command either
-unfoldable pub cutLength : ℕ → ℕ
-cutLength kept = cond (ltb kept 65536) kept 1024
-
--- the end that the last line lacks, where a byte of it is kept
-unfoldable pub lastEnd : ℕ → List ℕ
-lastEnd zero = []
-lastEnd (suc n) = 10 ∷ []

@@ -14,7 +14,7 @@ use Rattle.text.specs.Text.{lineLength, push, wholeLines}
 use Rattle.text.proofs.Laws.{length-line, whole-first}
 use Rattle.text.proofs.Chunks.{line-in}
 use Rattle.run.proofs.Program.{front}
-use Rattle.stream.specs.Stream.{cutLength, lastEnd}
+use Rattle.kept_text.specs.Kept.{cutLength, lastEnd}
 
 -- ---- lengths
 

@@ -1,9 +1,9 @@
 // Plays the lines of standard input, and prints an answer line for each.
+use kept_text::cut;
+use kept_text::finish;
+use kept_text::shift;
 use libc::STDIN_FILENO;
-use stream::cut;
 use stream::drain;
-use stream::finish;
-use stream::shift;
 
 fn main() {
     let fresh = promise::fresh();

@@ -1,7 +1,7 @@
 use borrow.Author.Tests.{lt-ltb, le-ltb}
-use Rattle.stream.specs.Stream.{cutLength}
-use Rattle.stream.proofs.cut.Statement.{statement}
-use Rattle.stream.proofs.cut.Tie as tie
+use Rattle.kept_text.specs.Kept.{cutLength}
+use Rattle.kept_text.proofs.cut.Statement.{statement}
+use Rattle.kept_text.proofs.cut.Tie as tie
 
 returns : tie.Need-returns
 unfolding cutLength

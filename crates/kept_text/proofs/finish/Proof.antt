@@ -1,10 +1,16 @@
-use mathlib.Core.Path.{refl}
+use mathlib.Core.Path.{_≡_, refl}
+use mathlib.Core.List.{[], _∷_}
+use Prim.Native.Nat.{ℕ, zero, suc}
 use native.Mathlib.Omega.{arith}
 use Rattle.octets.specs.Octets.{write}
-use Rattle.stream.specs.Stream.{lastEnd}
-use Rattle.stream.proofs.Laws.{last-end}
-use Rattle.stream.proofs.finish.Statement.{statement}
-use Rattle.stream.proofs.finish.Tie as tie
+use Rattle.kept_text.specs.Kept.{lastEnd}
+use Rattle.kept_text.proofs.finish.Statement.{statement}
+use Rattle.kept_text.proofs.finish.Tie as tie
+
+last-end : (kept : ℕ) → ¬ (kept ≡ 0) → lastEnd kept ≡ 10 ∷ []
+unfolding lastEnd
+last-end zero h = absurd (h refl)
+last-end (suc n) h = refl
 
 returns : tie.Need-returns
 unfolding lastEnd write

@@ -4,8 +4,8 @@ use Prim.Native.Nat.{_-_, _≤_}
 use native.Mathlib.Omega.{arith}
 use Rattle.octets.specs.Octets.{part, write}
 use Rattle.book.proofs.Laws.{move-more, write-back}
-use Rattle.stream.proofs.shift.Statement.{statement}
-use Rattle.stream.proofs.shift.Tie as tie
+use Rattle.kept_text.proofs.shift.Statement.{statement}
+use Rattle.kept_text.proofs.shift.Tie as tie
 
 abbrev Inv-loop : tie.InvT-loop
 Inv-loop buf₀ from len n i₀ buf i = (i ≤ n) × (buf ≡ write buf₀ 0 (part from i buf₀))
