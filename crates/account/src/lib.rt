@@ -1,7 +1,6 @@
 // One account by value: whose it is, its limits, and when it was last touched.
 ghost use mathlib.Core.Path.{_≡_};
 ghost use Rattle.rules.specs.Account as Rule;
-ghost use Rattle.rules.specs.Payment as Payment;
 ghost use Rattle.rules.specs.Message as Message;
 ghost use Rattle.account.specs.View.{toAccount, toOwner, toLimit};
 
@@ -58,17 +57,6 @@ pub fn is_bank(x: Account) -> bool
     match owner {
         Owner::Bank => true,
         Owner::Branch(_) => false,
-    }
-}
-
-// The bank of a party that has this account and this code.
-pub fn bank_code(x: Account, code: u32) -> u32
-    ensures { λ r. ⌜ r ≡ Payment.bankOr ((toAccount x) .owner) code ⌝ }
-{
-    let owner = x.owner;
-    match owner {
-        Owner::Bank => code,
-        Owner::Branch(b) => b,
     }
 }
 

@@ -1,11 +1,10 @@
 -- Frames, commands and lines (paper 01, "Frames"): the layout of each kind, the frame of a command, the command of a frame, and what a reader and a writer
 -- give. Assumes nothing.
-use mathlib.Core.Bool.{Bool, true, false, cond, _&&_}
-use mathlib.Core.List.{List, [], _∷_, _++_, map}
+use mathlib.Core.Bool.{Bool, cond, _&&_}
+use mathlib.Core.List.{List, [], _∷_, map}
 use Prim.Native.Nat.{ℕ, _%_}
 use lib.ListN.{length, getD}
 use lib.Dec.{leb, eqb}
-use Rattle.rules.specs.Account.{Moment}
 use Rattle.rules.specs.Command.{Header, Item, Command, Bank, Branch, Funding, Withdrawal, BankLimits, Payment, Change, Deletion, Query, Opening, wellFormed}
 use Rattle.frame.specs.Hex.{allHex, unhex}
 use Rattle.frame.specs.Field.{Plain, Text, Word, Money, Field, Code, UpTo, Second, Free, Items, Never, Row, Values, areFields, allBytes, allValues}

@@ -8,7 +8,7 @@ use native.Mathlib.Numerals.{add-one}
 use lib.Dec.{eqb}
 use lib.ListN.{length, take, drop, getD}
 use lib.Seq.{drop-cons, take-all, take-at, drop-at}
-use borrow.Author.Tests.{eq-eqb, ne-eqb}
+use borrow.Author.Tests.{ne-eqb}
 use Rattle.octets.specs.Octets.{part}
 use Rattle.octets.proofs.Places.{part-length, part-join}
 use Rattle.rules.specs.Command.{every}

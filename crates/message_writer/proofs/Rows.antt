@@ -1,21 +1,17 @@
 -- The rows of a message: the bytes of items and of account ids, how many they are, and when they are in range. Assumes nothing.
 use mathlib.Core.Path.{_≡_, refl, sym, ap, ap₂, _∙_}
-use mathlib.Core.Bool.{true, _&&_}
 use mathlib.Core.List.{List, [], _∷_, _++_, map, append-assoc, append-nil}
 use Prim.Native.Nat.{ℕ, zero, suc, _+_, _*_, _<_, _≤_}
 use native.Mathlib.Omega.{arith}
 use lib.ListN.{length, getD, length-append}
 use lib.IntN.{ℤ, pos}
-use borrow.Author.Tests.{lt-ltb}
-use Rattle.octets.specs.Octets.{bigEndian, areBytes, isBytes, isMoney, money, part, write}
+use Rattle.octets.specs.Octets.{bigEndian, money, part, write}
 use Rattle.octets.proofs.Numbers.{length-bigEndian}
 use Rattle.octets.proofs.Places.{part-length, part-join, write-then}
-use Rattle.rules.specs.Command.{every, isItem}
 use Rattle.frame.specs.Field.{plainBytes, rowBytes, rowsBytes}
 use Rattle.frame.specs.Frame.{itemRow, idRow, itemValues, idValues}
 use Rattle.command.specs.View.{itemsFrom, idsFrom}
 use Rattle.field_writer.proofs.Fields.{behind, lastly, byte-one, length-money}
-use Rattle.command.proofs.Forms.{id-fits}
 
 -- ---- items
 

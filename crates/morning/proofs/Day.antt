@@ -1,7 +1,6 @@
 -- A limit by an adjusting method. Assumes nothing.
 use mathlib.Core.Path.{_≡_, refl}
 use Prim.Native.Nat.{ℕ, zero, suc}
-use native.Mathlib.Omega.{arith}
 use lib.IntN.{ℤ, _-ℤ_}
 use Rattle.amount.specs.Amount.{cut}
 use Rattle.rules.specs.Account.{Value}

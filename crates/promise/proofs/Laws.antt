@@ -1,7 +1,7 @@
 -- What a call on the whole record has to show where it refuses and where it accepts. Assumes nothing.
 use mathlib.Core.Path.{_≡_, refl, sym, ap, _∙_, subst}
 use mathlib.Core.Bool.{Bool, true, false, cond, _&&_}
-use mathlib.Core.List.{List, [], _∷_, _++_}
+use mathlib.Core.List.{List, [], _∷_}
 use Prim.Native.Nat.{ℕ, zero, suc, _+_, _≤_, _<_}
 use native.Mathlib.Omega.{arith}
 use lib.Dec.{T, ltb, ltb→lt}
@@ -27,7 +27,7 @@ use Rattle.book.specs.Entries.{entriesOf, bookOf, Lengths, Added, Dropped}
 use Rattle.promise.specs.declared.Noted.{Noted}
 use Rattle.promise.specs.View.{viewOf, ledgerView, lent, outcomeOf, nextOf}
 use Rattle.promise.specs.Promise.{Sound, SoundLedger, Same, Settled, Played}
-use Rattle.promise.proofs.Lift.{plain, withBook, lifted, lifted-day, inv-book, inv-table}
+use Rattle.promise.proofs.Lift.{plain, withBook, lifted, lifted-day, inv-table}
 
 -- ---- the table of a sound record
 

@@ -5,7 +5,7 @@ use mathlib.Core.List.{List, []}
 use Prim.Native.Nat.{ℕ, zero, suc}
 use native.Mathlib.Omega.{arith}
 use lib.Dec.{T}
-use Rattle.rules.specs.Command.{Command, Bank, Branch, Funding, Withdrawal, BankLimits, Payment, Change, Deletion, Query, Opening, Call}
+use Rattle.rules.specs.Command.{Command, Bank, Branch, Funding, Withdrawal, BankLimits, Payment, Change, Deletion, Query, Opening}
 use Rattle.rules.specs.Invariant.{Book, Invariant}
 use Rattle.rules.specs.Machine.{Machine, withAccounts, hasPlace, checks, effect, answer, ifAccepted, next}
 use Rattle.rules.specs.Message.{Entry, keepFrom}

@@ -1,5 +1,3 @@
-use mathlib.Core.Path.{_≡_}
-use Prim.Native.Nat.{ℕ}
 use Rattle.promise.proofs.Laws.{good-table, settled-day-no, settled-day-yes}
 use Rattle.promise.specs.View.{viewOf}
 use Rattle.day.proofs.open.Statement.{statement}

@@ -1,6 +1,5 @@
 use Prim.Native.Nat.{_≤_, _-_}
 use Rattle.table.specs.Promise.{Good}
-use native.Mathlib.Omega.{arith}
 use borrow.Author.Needs.{needs}
 use Rattle.pay_bench.proofs.main.Statement.{statement}
 use Rattle.pay_bench.proofs.main.Tie as tie

@@ -3,7 +3,7 @@ use native.Mathlib.Omega.{arith}
 use native.Mathlib.Numerals.{add-one}
 use mathlib.Core.Path.{_≡_}
 use Prim.Native.Nat.{_+_, _-_, _≤_}
-use lib.ListN.{length, take, drop}
+use lib.ListN.{take, drop}
 use Rattle.table.specs.View.{placeOf}
 use Rattle.table.proofs.Places.{here, past, ended}
 use Rattle.table.proofs.place.Statement.{statement}
