@@ -10,11 +10,12 @@ use Rattle.rules.specs.Machine as Machine
 use Rattle.rules.specs.Machine.{Machine, empty, next, outcome, outcomes}
 use Rattle.rules.proofs.Simulation.{demand}
 use Rattle.table.specs.declared.Table.{Table}
-use Rattle.promise.specs.View.{lent, outcomeOf, nextOf}
+use Rattle.promise.specs.View.{viewOf, lent, outcomeOf, nextOf}
 use Rattle.run.specs.declared.Ran.{Ran}
 use Rattle.run.specs.Lines.{commandsIn, lineOutcome, lineNext, played, lineOutcomes, printedLines, callFirst, callsIn, outcomeFirst, ofCalls}
 use Rattle.run.specs.Program.{Reached, LinesDemand, RunDemand, DemandOfRuns}
 use Rattle.run.specs.Run.{RanIs}
+use Rattle.run.proofs.Sequence.{all-one}
 use Rattle.run.proofs.Program.{wrote, run-reached, runs-reached, runs-printed}
 
 -- ---- lines are calls
@@ -80,4 +81,8 @@ run-demand {before} {out = out} q p =
 
 -- any number of runs from a fresh record on: demand 3 of all lines that they played, and what they wrote are the machine's answers and reports
 pub runs-demand : DemandOfRuns
-runs-demand t ids days used ls bytes q = (reached-demand (runs-reached q), runs-printed q)
+unfolding printedLines
+runs-demand t ids days used ls bytes q = (
+  runs-printed q,
+  λ os e. subst (λ ps. Demand (callsIn ls) (ofCalls ls ps) (viewOf t ids days used)) (sym (all-one os (lineOutcomes empty ls) (e ∙ runs-printed q))) (reached-demand (runs-reached q)),
+)

@@ -5,13 +5,13 @@ use Prim.Native.Nat.{ℕ}
 use lib.ListN.{take}
 use Rattle.octets.specs.Octets.{write}
 use Rattle.rules.specs.Demand.{Demand}
-use Rattle.rules.specs.Machine.{empty}
+use Rattle.rules.specs.Machine.{empty, Outcome}
 use Rattle.table.specs.declared.Table.{Table}
 use Rattle.promise.specs.declared.Ledger.{Ledger}
 use Rattle.promise.specs.Promise.{Sound, SoundLedger}
 use Rattle.promise.specs.View.{viewOf, ledgerView}
 use Rattle.run.specs.declared.Ran.{Ran}
-use Rattle.run.specs.Lines.{played, lineOutcomes, printedLines, callsIn, ofCalls}
+use Rattle.run.specs.Lines.{played, lineOutcomes, printedAll, printedLines, callsIn, ofCalls}
 use Rattle.run.specs.Run.{RanIs}
 
 -- the record is the history machine after these lines, from its start on
@@ -36,8 +36,10 @@ pub data Runs : Table → List ℕ → List ℕ → ℕ → List (List ℕ) → 
   then : {t : Table} {ids days : List ℕ} {used : ℕ} {ls : List (List ℕ)} {bytes input out ids′ days′ out′ : List ℕ} {r : Ran} → Runs t ids days used ls bytes
       → (p : RanIs t ids days used input out r ids′ days′ out′) → Runs (r .table) ids′ days′ (r .used) (ls ++ p .passed .lines) (bytes ++ take (r .written) out′)
 
--- demand 3 of the lines that `run` plays, said once of all of them, in however many runs: and the bytes written are the history machine's answer lines
+-- demand 3 of the lines that `run` plays, said once of all of them, in however many runs: the bytes written are the history machine's answer lines, and
+-- whoever reads answers and reports off these bytes reads those of demand 3
 abbrev pub DemandOfRuns : Type 0
 DemandOfRuns =
     (t : Table) (ids days : List ℕ) (used : ℕ) (ls : List (List ℕ)) (bytes : List ℕ) → Runs t ids days used ls bytes
-    → (LinesDemand ls t ids days used) × (bytes ≡ printedLines empty ls)
+    → (bytes ≡ printedLines empty ls)
+    × ((os : List Outcome) → printedAll os ≡ bytes → Demand (callsIn ls) (ofCalls ls os) (viewOf t ids days used))
