@@ -2,7 +2,7 @@
 use mathlib.Core.Path.{_≡_}
 use mathlib.Core.Logic.{_⊎_}
 use mathlib.Core.List.{List, [], _++_}
-use Prim.Native.Nat.{ℕ, _+_, _≤_, _<_}
+use Prim.Native.Nat.{ℕ, _+_, _-_, _≤_, _<_}
 use lib.ListN.{length, take, drop}
 use Rattle.octets.specs.Octets.{write}
 use Rattle.rules.specs.Machine.{Machine}
@@ -11,7 +11,7 @@ use Rattle.promise.specs.Promise.{Sound}
 use Rattle.promise.specs.View.{viewOf}
 use Rattle.text.specs.Text.{lineLength, wholeLines, joined}
 use Rattle.run.specs.declared.Ran.{Ran}
-use Rattle.run.specs.Lines.{played, printedLines}
+use Rattle.run.specs.Lines.{played, printedLines, fitting}
 
 -- the end of the line from `from` on, where there is one and room for the longest answer line: 2 digits, 2 for each of 913 bytes, the end
 pub record NextIs (input : List ℕ) (from room r : ℕ) : Type 0 where
@@ -27,12 +27,14 @@ pub record Passed (m : Machine) (input out : List ℕ) (t : Table) (ids days : L
   pub within : read ≤ length input
   pub text : joined lines ≡ take read input
   pub rest : wholeLines input ≡ lines ++ wholeLines (drop read input)
+  pub chosen : fitting m (length out) (wholeLines input) ≡ lines ++ fitting (viewOf t ids days used) (length out - written) (wholeLines (drop read input))
   pub state : viewOf t ids days used ≡ played m lines
   pub room : written ≤ length out
   pub bytes : out′ ≡ write out 0 (printedLines m lines)
   pub long : length (printedLines m lines) ≡ written
 
--- all whole lines were played, or so many that the longest answer line has no room behind what is written
+-- the lines played are the whole lines in order, while the longest answer line has room behind what is written
 pub record RanIs (t : Table) (ids days : List ℕ) (used : ℕ) (input out : List ℕ) (r : Ran) (ids′ days′ out′ : List ℕ) : Type 0 where
   pub passed : Passed (viewOf t ids days used) input out (r .table) ids′ days′ (r .used) (r .read) (r .written) out′
+  pub which : passed .lines ≡ fitting (viewOf t ids days used) (length out) (wholeLines input)
   pub stop : (wholeLines (drop (r .read) input) ≡ []) ⊎ (length out < r .written + 1829)

@@ -7,7 +7,7 @@ use borrow.Author.Needs.{needs}
 use lib.ListN.{length}
 use Rattle.promise.specs.View.{viewOf}
 use Rattle.run.specs.Run.{NextIs, Passed}
-use Rattle.run.proofs.Laws.{small, same-report, begin, turn, forward, fits}
+use Rattle.run.proofs.Laws.{small, same-report, begin, turn, forward, fits, all-chosen}
 use Rattle.run.proofs.run.Statement.{statement}
 use Rattle.run.proofs.run.Tie as tie
 
@@ -94,6 +94,7 @@ returns c =
     let l = c .before .loop in
     record {
       passed = l .inv .0;
+      which = all-chosen _ _ _ _ _ _ _ _ _ _ (l .inv .0) (l .inv .1 .done (c .loop-test .left));
       stop = ⊎-elim (λ w. inl w) (λ w. inr (omega (arith, l .inv .0 .room))) (l .inv .1 .done (c .loop-test .left));
     }
 
