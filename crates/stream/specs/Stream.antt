@@ -1,8 +1,8 @@
 -- What the program does with the text that it has read. Assumes nothing.
 use mathlib.Core.Path.{_≡_}
-use mathlib.Core.Bool.{true}
+use mathlib.Core.Bool.{true, false}
 use mathlib.Core.List.{List, [], _++_}
-use Prim.Native.Nat.{ℕ, _≤_}
+use Prim.Native.Nat.{ℕ, _≤_, _<_}
 use lib.ListN.{length, take, drop}
 use Rattle.rules.specs.Machine.{Machine}
 use Rattle.table.specs.declared.Table.{Table}
@@ -22,7 +22,8 @@ pub record Upto (m : Machine) (text : List ℕ) (t : Table) (ids days : List ℕ
   pub rest : wholeLines text ≡ lines ++ wholeLines (drop read text)
   pub state : viewOf t ids days used ≡ played m lines
 
--- where all was written, these are all whole lines of the text
+-- where all was written, these are all whole lines of the text; where a write failed, some line was played before it
 pub record DrainedIs (t : Table) (ids days : List ℕ) (used : ℕ) (text : List ℕ) (r : Drained) (ids′ days′ : List ℕ) : Type 0 where
   pub upto : Upto (viewOf t ids days used) text (r .table) ids′ days′ (r .used) (r .read)
   pub all : r .ok ≡ true → wholeLines (drop (r .read) text) ≡ []
+  pub failed : r .ok ≡ false → 0 < r .read

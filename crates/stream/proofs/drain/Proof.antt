@@ -51,7 +51,7 @@ same-length : tie.Need-same-length Inv-loop μ-loop
 same-length c = same-out _ _ _ _ _ _ _ (c .before .before .before .before .before .before .before .before .before .before .before .before .before .loop .inv .0) _ _ _ _ _ _ (behind (c .before .before .before .before .before .before .before .before .before .before .before .before .before .before .before .before .args .text .now) (c .before .before .before .before .before .before .before .before .before .before .before .before .before .loop .read)) (c .before .before .before .before .before .before .before .run .ensures) ∙ c .before .before .before .before .before .before .before .before .before .before .before .before .before .loop .inv .1
 
 returns : tie.Need-returns Inv-loop μ-loop
-returns c = record { upto = more _ _ _ _ _ _ _ (c .before .before .before .before .before .before .before .before .before .before .before .before .before .loop .inv .0) _ _ _ _ _ _ (behind (c .before .before .before .before .before .before .before .before .before .before .before .before .before .before .before .before .args .text .now) (c .before .before .before .before .before .before .before .before .before .before .before .before .before .loop .read)) (c .before .before .before .before .before .before .before .run .ensures); all = λ h. absurd (false≢true h) }
+returns c = record { upto = more _ _ _ _ _ _ _ (c .before .before .before .before .before .before .before .before .before .before .before .before .before .loop .inv .0) _ _ _ _ _ _ (behind (c .before .before .before .before .before .before .before .before .before .before .before .before .before .before .before .before .args .text .now) (c .before .before .before .before .before .before .before .before .before .before .before .before .before .loop .read)) (c .before .before .before .before .before .before .before .run .ensures); all = λ h. absurd (false≢true h); failed = λ h. omega (arith, c .before .before .before .if1 .left) }
 
 loop-less : tie.Need-loop-less Inv-loop μ-loop
 loop-less c = omega (arith, inside _ _ _ _ _ _ _ (c .before .before .before .before .before .before .before .before .before .before .before .before .before .loop .inv .0) _ _ _ _ _ _ (behind (c .before .before .before .before .before .before .before .before .before .before .before .before .before .before .before .before .args .text .now) (c .before .before .before .before .before .before .before .before .before .before .before .before .before .loop .read)) (c .before .before .before .before .before .before .before .run .ensures), c .before .before .before .if1 .left)
@@ -63,7 +63,7 @@ same-length-2 : tie.Need-same-length-2 Inv-loop μ-loop
 same-length-2 c = c .before .loop .inv .1
 
 returns-2 : tie.Need-returns-2 Inv-loop μ-loop
-returns-2 c = record { upto = c .before .loop .inv .0; all = λ h. whole-past _ _ (c .loop-test .left) }
+returns-2 c = record { upto = c .before .loop .inv .0; all = λ h. whole-past _ _ (c .loop-test .left); failed = λ h. absurd (false≢true (sym h)) }
 
 same-length-3 : tie.Need-same-length-3 Inv-loop μ-loop
 same-length-3 c = same-out _ _ _ _ _ _ _ (c .before .before .before .before .before .before .before .before .before .before .loop .inv .0) _ _ _ _ _ _ (behind (c .before .before .before .before .before .before .before .before .before .before .before .before .before .args .text .now) (c .before .before .before .before .before .before .before .before .before .before .loop .read)) (c .before .before .before .before .run .ensures) ∙ c .before .before .before .before .before .before .before .before .before .before .loop .inv .1
@@ -72,6 +72,7 @@ returns-3 : tie.Need-returns-3 Inv-loop μ-loop
 returns-3 c = record {
   upto = same _ _ _ _ _ _ _ (c .before .before .before .before .before .before .before .before .before .before .loop .inv .0) _ _ _ _ _ _ (behind (c .before .before .before .before .before .before .before .before .before .before .before .before .before .args .text .now) (c .before .before .before .before .before .before .before .before .before .before .loop .read)) (c .before .before .before .before .run .ensures) (c .if1 .taken);
   all = λ h. none _ _ _ _ _ _ _ (c .before .before .before .before .before .before .before .before .before .before .loop .inv .0) _ _ _ _ _ _ (behind (c .before .before .before .before .before .before .before .before .before .before .before .before .before .args .text .now) (c .before .before .before .before .before .before .before .before .before .before .loop .read)) (c .before .before .before .before .run .ensures) (c .if1 .taken) (omega (arith, c .before .before .before .before .before .before .before .before .before .before .loop .inv .1, c .before .before .before .before .before .before .before .before .before .before .before .before .before .pre .1));
+  failed = λ h. absurd (false≢true (sym h));
 }
 
 pub drain-spec : {M : Type 1} → statement M
