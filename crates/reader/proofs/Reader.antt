@@ -14,6 +14,7 @@ use Rattle.rules.specs.Message.{isDigit}
 use Rattle.frame.specs.Hex.{nibble, isLetter, isHex, allHex, unhex}
 use Rattle.frame.specs.Frame.{isFrame, lineFrame, given, readFrame}
 use Rattle.frame.proofs.Layouts.{frame-length}
+use Rattle.reader.specs.Unpacked.{isPacked, Unpacked}
 
 -- ---- tests
 
@@ -103,40 +104,72 @@ unhex-end l d n i h e =
 pub taken : (line last d : List ℕ) → last ≡ unhex line ++ drop (length line / 2) d → take (length line / 2) last ≡ unhex line
 taken line last d e = rw e (take-at (unhex line) (drop (length line / 2) d) (length line / 2) (unhex-length line))
 
--- ---- what is read of a line into a buffer of `room` bytes
+-- ---- the frame that a line is
 
-nothing : (t : Bool) → cond {A = List ℕ} t [] [] ≡ []
-nothing true = refl
-nothing false = refl
-
-module _ (line : List ℕ) (room : ℕ) where
-  pub no-room : room < 352 → readFrame line room ≡ []
-  unfolding readFrame given
-  no-room h = ap (λ (t : Bool). cond t (lineFrame line) []) (lt-leb 352 room h)
-
-  no-frame : lineFrame line ≡ [] → readFrame line room ≡ []
-  unfolding readFrame given
-  no-frame e = rw e (nothing (leb 352 room))
-
-  pub odd : (length line % 2 ≡ 0 → ⊥) → readFrame line room ≡ []
+module _ (line : List ℕ) where
+  pub odd : (length line % 2 ≡ 0 → ⊥) → lineFrame line ≡ []
   unfolding lineFrame
-  odd h = no-frame (ap (λ (t : Bool). cond ((t && allHex line) && isFrame (unhex line)) (unhex line) []) (ne-eqb (length line % 2) 0 h))
+  odd h = ap (λ (t : Bool). cond ((t && allHex line) && isFrame (unhex line)) (unhex line) []) (ne-eqb (length line % 2) 0 h)
 
-  pub not-hex : allHex line ≡ false → readFrame line room ≡ []
+  pub not-hex : allHex line ≡ false → lineFrame line ≡ []
   unfolding lineFrame
-  not-hex e = no-frame (rw (e, both-false))
+  not-hex e = rw (e, both-false)
 
-  pub bad : isFrame (unhex line) ≡ false → readFrame line room ≡ []
+  pub bad : isFrame (unhex line) ≡ false → lineFrame line ≡ []
   unfolding lineFrame
-  bad e = no-frame (rw (e, both-false))
+  bad e = rw (e, both-false)
 
-  pub long : 352 < length line / 2 → readFrame line room ≡ []
+  pub long : 352 < length line / 2 → lineFrame line ≡ []
   long h = bad (go (isFrame (unhex line)) refl)
     where
       go : (t : Bool) → isFrame (unhex line) ≡ t → t ≡ false
       go true e = absurd (omega (arith, frame-length (unhex line) e, unhex-length line))
       go false e = refl
 
-  pub good : 352 ≤ room → length line % 2 ≡ 0 → allHex line ≡ true → isFrame (unhex line) ≡ true → readFrame line room ≡ unhex line
-  unfolding readFrame given lineFrame
-  good h v e f = rw (le-leb 352 room h, eq-eqb (length line % 2) 0 v, e, f)
+  pub good : length line % 2 ≡ 0 → allHex line ≡ true → isFrame (unhex line) ≡ true → lineFrame line ≡ unhex line
+  unfolding lineFrame
+  good v e f = rw (eq-eqb (length line % 2) 0 v, e, f)
+
+  -- read into a buffer of `room` bytes
+  pub no-room : (room : ℕ) → room < 352 → readFrame line room ≡ []
+  unfolding readFrame given
+  no-room room h = ap (λ (t : Bool). cond t (lineFrame line) []) (lt-leb 352 room h)
+
+  pub roomy : (room : ℕ) → 352 ≤ room → readFrame line room ≡ lineFrame line
+  unfolding readFrame given
+  roomy room h = ap (λ (t : Bool). cond t (lineFrame line) []) (le-leb 352 room h)
+
+-- ---- unpacked
+
+-- nothing is written
+module _ (line entry : List ℕ) where
+  unread : isPacked line ≡ false → lineFrame line ≡ [] → Unpacked line entry entry 0
+  unread p e = record { length-is = rw e refl; frame-is = rw e refl; bytes-are = rw p refl }
+
+  pub unread-odd : (length line % 2 ≡ 0 → ⊥) → Unpacked line entry entry 0
+  unfolding isPacked
+  unread-odd h = unread (ap (λ (t : Bool). (t && leb (length line / 2) 352) && allHex line) (ne-eqb (length line % 2) 0 h)) (odd line h)
+
+  pub unread-long : 352 < length line / 2 → Unpacked line entry entry 0
+  unfolding isPacked
+  unread-long h = unread (rw (lt-leb (length line / 2) 352 h, both-false) refl) (long line h)
+
+  pub unread-other : allHex line ≡ false → Unpacked line entry entry 0
+  unfolding isPacked
+  unread-other e = unread (rw (e, both-false) refl) (not-hex line e)
+
+  -- the line's bytes are written
+  module _ (v : length line % 2 ≡ 0) (s : length line / 2 ≤ 352) (x : allHex line ≡ true) (exit : List ℕ) (w : exit ≡ unhex line ++ drop (length line / 2) entry) where
+    written : exit ≡ cond (isPacked line) (unhex line ++ drop (length line / 2) entry) entry
+    unfolding isPacked
+    written = rw (eq-eqb (length line % 2) 0 v, le-leb (length line / 2) 352 s, x) w
+
+    pub no-frame : isFrame (unhex line) ≡ false → Unpacked line entry exit 0
+    no-frame e = record { length-is = rw (bad line e) refl; frame-is = rw (bad line e) refl; bytes-are = written }
+
+    pub is-frame : isFrame (unhex line) ≡ true → Unpacked line entry exit (length line / 2)
+    is-frame e = record {
+      length-is = sym (ap length (good line v x e) ∙ unhex-length line);
+      frame-is = taken line exit entry w ∙ sym (good line v x e);
+      bytes-are = written;
+    }

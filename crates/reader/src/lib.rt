@@ -7,6 +7,7 @@ ghost use lib.ListN.{length, drop};
 ghost use Rattle.frame.specs.Hex.{isHex, allHex, nibble, unhex};
 ghost use Rattle.frame.specs.Frame.{readFrame};
 ghost use Rattle.frame.specs.Filled.{Filled};
+ghost use Rattle.reader.specs.Unpacked.{Unpacked};
 use frame::is_digit;
 use frame::well_formed;
 
@@ -63,15 +64,11 @@ fn copy(src: &[u8], dst: &mut [u8]) -> usize
     i
 }
 
-// Writes the frame that a line is from byte 0 on and returns its length. Where the line is no frame, or the buffer has under 352 bytes, it returns 0 and
-// leaves the buffer as it was.
-#[no_mangle]
-pub extern "C" fn read_frame(line: &[u8], frame: &mut [u8]) -> usize
-    ensures { λ r. ⌜ Filled (readFrame (now (line .entry)) (length (now (frame .entry)))) (now (frame .entry)) (now (frame .exit)) r ⌝ }
+// The bytes of a line, from byte 0 of the buffer on, and the length of the frame that they are: 0 where they are none.
+pub fn unpack(line: &[u8], buf: &mut [u8]) -> usize
+    requires { ⌜ 352 ≤ length (now buf) ⌝ }
+    ensures { λ r. ⌜ Unpacked (now (line .entry)) (now (buf .entry)) (now (buf .exit)) r ⌝ }
 {
-    if frame.len() < 352 {
-        return 0;
-    }
     if line.len() % 2 != 0 {
         return 0;
     }
@@ -82,10 +79,23 @@ pub extern "C" fn read_frame(line: &[u8], frame: &mut [u8]) -> usize
     if !all_hex(line) {
         return 0;
     }
-    let mut buf = [0u8; 352];
-    decode(line, n, &mut buf);
+    decode(line, n, buf);
     if !well_formed(&buf[..n]) {
         return 0;
     }
+    n
+}
+
+// Writes the frame that a line is from byte 0 on and returns its length. Where the line is no frame, or the buffer has under 352 bytes, it returns 0 and
+// leaves the buffer as it was.
+#[no_mangle]
+pub extern "C" fn read_frame(line: &[u8], frame: &mut [u8]) -> usize
+    ensures { λ r. ⌜ Filled (readFrame (now (line .entry)) (length (now (frame .entry)))) (now (frame .entry)) (now (frame .exit)) r ⌝ }
+{
+    if frame.len() < 352 {
+        return 0;
+    }
+    let mut buf = [0u8; 352];
+    let n = unpack(line, &mut buf);
     copy(&buf[..n], frame)
 }
