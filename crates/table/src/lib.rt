@@ -6,6 +6,7 @@ ghost use Rattle.rules.specs.Account as Rule;
 ghost use Rattle.rules.specs.Machine as Machine;
 ghost use Rattle.table.specs.View.{accountsOf, machineOf, placeOf};
 ghost use Rattle.table.specs.Promise.{Good, Slot};
+ghost use Rattle.table.specs.Weights.{weightOf};
 use account::Account;
 use account::Owner;
 use account::opened;
@@ -37,8 +38,24 @@ pub fn fresh() -> Table
     }
 }
 
-// The place of a code among the first n, or n.
-pub fn place(all: &[u32; 64], n: usize, code: u32) -> usize
+// The sum of 64 + i over the places i below n at which the code stands. The pass has no way out and counts in 32 bits, so that the compiler
+// takes several codes at a time.
+fn weight(all: &[u32; 64], n: usize, code: u32) -> u32
+    requires { ⌜ (n ≤ 64) × (length (now all) ≡ 64) ⌝ }
+    ensures { λ r. ⌜ r ≡ weightOf code 64 (take n (now (all .entry))) ⌝ }
+{
+    let mut r: u32 = 0;
+    let mut i: u32 = 0;
+    let m = n as u32;
+    while i < m {
+        r += if all[i as usize] == code { 64 + i } else { 0 };
+        i += 1;
+    }
+    r
+}
+
+// The place of a code among the first n, or n, where the code may stand more than once.
+fn first_place(all: &[u32; 64], n: usize, code: u32) -> usize
     requires { ⌜ (n ≤ 64) × (length (now all) ≡ 64) ⌝ }
     ensures { λ r. ⌜ r ≡ placeOf code (take n (now (all .entry))) ⌝ }
 {
@@ -50,6 +67,21 @@ pub fn place(all: &[u32; 64], n: usize, code: u32) -> usize
         i += 1;
     }
     n
+}
+
+// The place of a code among the first n, or n. A weight below 128 is that of one place: a table's codes are unique, so no other comes up.
+pub fn place(all: &[u32; 64], n: usize, code: u32) -> usize
+    requires { ⌜ (n ≤ 64) × (length (now all) ≡ 64) ⌝ }
+    ensures { λ r. ⌜ r ≡ placeOf code (take n (now (all .entry))) ⌝ }
+{
+    let w = weight(all, n, code);
+    if w == 0 {
+        return n;
+    }
+    if w < 128 {
+        return (w - 64) as usize;
+    }
+    first_place(all, n, code)
 }
 
 // The place of a code as a place of the array: its own where the code is known, any where it is not.
