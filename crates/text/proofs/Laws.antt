@@ -1,14 +1,15 @@
 -- Laws of lines and of the printed form. Assumes nothing.
 use mathlib.Core.Path.{_≡_, refl, sym, ap, _∙_}
-use mathlib.Core.Bool.{Bool, true, false, cond}
+use mathlib.Core.Bool.{Bool, true, false, true≢false, cond, _||_}
 use mathlib.Core.List.{List, [], _∷_, _++_, append-assoc, append-nil}
-use Prim.Native.Nat.{ℕ, suc, _+_, _*_, _-_, _/_, _%_, _≤_, _<_}
+use Prim.Native.Nat.{ℕ, zero, suc, _+_, _*_, _-_, _/_, _%_, _≤_, _<_}
 use native.Mathlib.Numerals.{add-one}
 use native.Mathlib.Omega.{arith}
 use lib.Dec.{eqb}
 use lib.ListN.{length, take, drop, getD, set, length-append, length-drop, drop-of-length-le}
 use lib.Seq.{drop-cons, take-suc, length-take-le, take-at, drop-at, drop-drop, take-add}
 use borrow.Author.Tests.{eq-eqb, ne-eqb, eqb-true}
+use Rattle.rules.specs.Command.{some?}
 use Rattle.octets.specs.Octets.{write}
 use Rattle.octets.proofs.Places.{write-then, write-is}
 use Rattle.frame.specs.Hex.{hexDigit, hex}
@@ -33,6 +34,23 @@ pass-line s i h n = rw (drop-cons s i 0 h, ne-eqb (getD s i 0) 10 n, add-one)
 pub end-line : (s : List ℕ) (i : ℕ) → i < length s → getD s i 0 ≡ 10 → lineLength (drop i s) ≡ 0
 unfolding lineLength
 end-line s i h e = rw (drop-cons s i 0 h, eq-eqb (getD s i 0) 10 e)
+
+-- one byte more is looked at
+pub some-step : (l : List ℕ) (i : ℕ) → i < length l → some? (λ b. eqb b 10) (drop i l) ≡ eqb (getD l i 0) 10 || some? (λ b. eqb b 10) (drop (i + 1) l)
+unfolding some?
+some-step l i h = rw (add-one, drop-cons l i 0 h)
+
+-- bytes without a line end are passed at once
+pub pass-block : (n : ℕ) (l : List ℕ) → n ≤ length l → some? (λ b. eqb b 10) (take n l) ≡ false → lineLength l ≡ n + lineLength (drop n l)
+unfolding lineLength some?
+pass-block zero l h e = omega arith
+pass-block (suc n) [] h e = absurd (omega arith)
+pass-block (suc n) (b ∷ t) h e = go (eqb b 10) (λ g. pass-block n t (omega arith) g) e
+  where
+    go : (q : Bool) → (some? (λ b. eqb b 10) (take n t) ≡ false → lineLength t ≡ n + lineLength (drop n t))
+        → q || some? (λ b. eqb b 10) (take n t) ≡ false → cond q 0 (suc (lineLength t)) ≡ suc n + lineLength (drop n t)
+    go true r g = absurd (true≢false g)
+    go false r g = omega (arith, r g)
 
 pub whole-first : (s : List ℕ) → lineLength s < length s → wholeLines s ≡ take (lineLength s) s ∷ wholeLines (drop (suc (lineLength s)) s)
 unfolding lineLength wholeLines

@@ -2,16 +2,47 @@
 ghost use mathlib.Core.Path.{_≡_};
 ghost use Prim.Native.Nat.{_+_, _*_, _<_, _≤_};
 ghost use lib.ListN.{length, drop, take};
+ghost use lib.Dec.{eqb};
+ghost use Rattle.rules.specs.Command.{some?};
 ghost use Rattle.octets.specs.Octets.{write};
 ghost use Rattle.frame.specs.Hex.{hexDigit, hex};
 ghost use Rattle.text.specs.Text.{lineLength, printed};
+
+// Whether a line end stands among 32 bytes. The pass has no way out, so that the compiler takes several bytes at a time.
+fn has_end(block: &[u8]) -> bool
+    requires { ⌜ length (now block) ≡ 32 ⌝ }
+    ensures { λ r. ⌜ r ≡ some? (λ b. eqb b 10) (now (block .entry)) ⌝ }
+{
+    let mut any = false;
+    let mut i: usize = 0;
+    while i < 32 {
+        any = any | (block[i] == 10);
+        i += 1;
+    }
+    any
+}
+
+// Goes on from `from` by whole blocks of 32 bytes without a line end.
+fn skip(s: &[u8], from: usize) -> usize
+    requires { ⌜ from ≤ length (now s) ⌝ }
+    ensures { λ r. ⌜ (from ≤ r) × (r ≤ length (now (s .entry))) × (from + lineLength (drop from (now (s .entry))) ≡ r + lineLength (drop r (now (s .entry)))) ⌝ }
+{
+    let mut i = from;
+    while 32 <= s.len() - i {
+        if has_end(&s[i..i + 32]) {
+            return i;
+        }
+        i += 32;
+    }
+    i
+}
 
 // The place of the first line end from `from` on, or the text's length where there is none.
 pub fn line_end(s: &[u8], from: usize) -> usize
     requires { ⌜ from ≤ length (now s) ⌝ }
     ensures { λ r. ⌜ r ≡ from + lineLength (drop from (now (s .entry))) ⌝ }
 {
-    let mut i = from;
+    let mut i = skip(s, from);
     while i < s.len() {
         if s[i] == 10 {
             return i;

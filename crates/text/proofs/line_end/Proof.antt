@@ -1,5 +1,5 @@
 -- The answer over the text is the answer over what is left, from i on. Assumes nothing.
-use mathlib.Core.Path.{_≡_, refl, ap}
+use mathlib.Core.Path.{_≡_, ap}
 use Prim.Native.Nat.{_+_, _-_, _≤_}
 use native.Mathlib.Omega.{arith}
 use lib.ListN.{length, drop, drop-of-length-le}
@@ -14,8 +14,11 @@ Inv-loop s from i₀ i = (i ≤ length s) × (from + lineLength (drop from s) �
 abbrev μ-loop : tie.MeasureT-loop
 μ-loop s from i₀ i = length s - i
 
+skip-requires : tie.Need-skip-requires Inv-loop μ-loop
+skip-requires c κs = omega arith
+
 loop-holds : tie.Need-loop-holds Inv-loop μ-loop
-loop-holds c = (omega arith, refl)
+loop-holds c = omega arith
 
 shared-slice-read-if1 : tie.Need-shared-slice-read-if1 Inv-loop μ-loop
 shared-slice-read-if1 c = omega arith
@@ -23,7 +26,7 @@ shared-slice-read-if1 c = omega arith
 returns : tie.Need-returns Inv-loop μ-loop
 returns c =
     let l = c .before .before .before in
-    omega (arith, end-line (l .before .args .s .now) (l .loop .i) (omega arith) (c .if1 .taken))
+    omega (arith, end-line (l .before .before .before .args .s .now) (l .loop .i) (omega arith) (omega arith))
 
 add-i : tie.Need-add-i Inv-loop μ-loop
 add-i c = omega arith
@@ -34,13 +37,13 @@ loop-less c = omega arith
 loop-again : tie.Need-loop-again Inv-loop μ-loop
 loop-again c =
     let l = c .before .before .before in
-    omega (arith, pass-line (l .before .args .s .now) (l .loop .i) (omega arith) (c .if1 .left))
+    omega (arith, pass-line (l .before .before .before .args .s .now) (l .loop .i) (omega arith) (c .if1 .left))
 
 returns-2 : tie.Need-returns-2 Inv-loop μ-loop
 unfolding lineLength
 returns-2 c =
     let l = c .before in
-    omega (arith, ap lineLength (drop-of-length-le (l .before .args .s .now) (c .loop-test .left)))
+    omega (arith, ap lineLength (drop-of-length-le (l .before .before .before .args .s .now) (c .loop-test .left)))
 
 pub line-end-spec : {M : Type 1} → statement M
 line-end-spec =
@@ -48,6 +51,7 @@ line-end-spec =
     (tie.spec
     Inv-loop
     μ-loop
+    skip-requires
     loop-holds
     shared-slice-read-if1
     returns
