@@ -2,9 +2,8 @@
 use mathlib.Core.Path.{_≡_, refl, sym, ap, ap₂, _∙_, subst}
 use mathlib.Core.Bool.{true, false, cond, _||_}
 use mathlib.Core.List.{List, [], _∷_, _++_}
-use Prim.Native.Nat.{ℕ, zero, suc, _+_, _*_, _^_, _<_, _≤_}
+use Prim.Native.Nat.{ℕ, _+_, _*_, _^_, _<_, _≤_}
 use native.Mathlib.Omega.{arith}
-use native.Mathlib.Numerals.{add-one}
 use borrow.Author.Tests.{le-ltb}
 use lib.Dec.{T, eqb}
 use lib.IntN.{ℤ, pos}
@@ -18,6 +17,7 @@ use Rattle.rules.specs.Message.{named, withLimit, touch, cleared, setItem, setI
 use Rattle.rules.proofs.Ledger.{Quiet, quiet-touch}
 use Rattle.command.specs.declared.Header as Program
 use Rattle.command.specs.View.{toHeader, itemsFrom}
+use Rattle.command.proofs.Forms.{itemAt, items-next}
 use Rattle.account.specs.declared.Account.{Account}
 use Rattle.account.specs.View.{toAccount, Light}
 use Rattle.table.specs.declared.Table.{Table}
@@ -35,27 +35,13 @@ adjust-unknown c f (x ∷ xs) e =
     (elim (eqb (x .code) c) as (λ b. b || known c xs ≡ false → cond b (f x ∷ xs) (x ∷ adjust c f xs) ≡ x ∷ xs)
     [ true ↦ λ e. absurd (subst T e tt) | false ↦ λ e. ap (λ l. x ∷ l) (adjust-unknown c f xs e) ]) e
 
--- the item at a place of the arrays
-abbrev pub itemAt : ℕ → List ℕ → List ℕ → List ℤ → Item
-itemAt i a ts vs = record { account = part (i * 10) 10 a; type = getD ts i 0; value = getD vs i (pos 0) }
-
-items-grow : (k n : ℕ) (a ts : List ℕ) (vs : List ℤ) → itemsFrom k (suc n) a ts vs ≡ itemsFrom k n a ts vs ++ (itemAt (k + n) a ts vs ∷ [])
-unfolding itemsFrom
-items-grow k zero a ts vs = let z : k + 0 ≡ k = omega arith in rw z
-items-grow k (suc n) a ts vs = let z : k + suc n ≡ suc k + n = omega arith in rw z (ap (λ l. itemAt k a ts vs ∷ l) (items-grow (suc k) n a ts vs))
-
 set-more : (h : Header) (is : List Item) (i : Item) (xs : List Rule.Account) → setItems h (is ++ (i ∷ [])) xs ≡ setItem h i (setItems h is xs)
 unfolding setItems
 set-more h [] i xs = refl
 set-more h (j ∷ is) i xs = set-more h is i (setItem h j xs)
 
 pub set-next : (h : Header) (i : ℕ) (a ts : List ℕ) (vs : List ℤ) (xs : List Rule.Account) → setItems h (itemsFrom 0 (i + 1) a ts vs) xs ≡ setItem h (itemAt i a ts vs) (setItems h (itemsFrom 0 i a ts vs) xs)
-set-next h i a ts vs xs =
-    let z : 0 + i ≡ i = omega arith in
-    ap (λ n. setItems h (itemsFrom 0 n a ts vs) xs) (add-one i)
-    ∙ ap (λ is. setItems h is xs) (items-grow 0 i a ts vs)
-    ∙ set-more h (itemsFrom 0 i a ts vs) (itemAt (0 + i) a ts vs) xs
-    ∙ ap (λ j. setItem h (itemAt j a ts vs) (setItems h (itemsFrom 0 i a ts vs) xs)) z
+set-next h i a ts vs xs = ap (λ is. setItems h is xs) (items-next a ts vs i) ∙ set-more h (itemsFrom 0 i a ts vs) (itemAt i a ts vs) xs
 
 -- ---- one account
 

@@ -1,9 +1,10 @@
 -- When a command of a program's values is in range: their types give the rest. Assumes nothing.
 use mathlib.Core.Path.{_≡_, refl, ap, ap₂, _∙_}
 use mathlib.Core.Bool.{Bool, true, false, _&&_, and-true}
-use mathlib.Core.List.{List, [], _∷_}
+use mathlib.Core.List.{List, [], _∷_, _++_}
 use Prim.Native.Nat.{ℕ, zero, suc, _+_, _*_, _^_, _<_, _≤_}
 use native.Mathlib.Omega.{arith}
+use native.Mathlib.Numerals.{add-one}
 use lib.ListN.{length, getD}
 use lib.IntN.{ℤ, pos}
 use lib.Dec.{leb, ltb, lit<}
@@ -16,7 +17,7 @@ use denote.Signed.{SInt}
 use Rattle.octets.specs.Octets.{areBytes, isBytes, isMoney, part}
 use Rattle.octets.proofs.Numbers.{bytes-part}
 use Rattle.octets.proofs.Places.{part-length}
-use Rattle.rules.specs.Command.{Funding, Withdrawal, BankLimits, Payment, Change, Deletion, Query, every, isCode, isDay, isCount, isHeader, isItem, wellFormed}
+use Rattle.rules.specs.Command.{Item, Funding, Withdrawal, BankLimits, Payment, Change, Deletion, Query, every, isCode, isDay, isCount, isHeader, isItem, wellFormed}
 use Rattle.frame.proofs.Digits.{both}
 use Rattle.frame.proofs.Rows.{is-bytes}
 use Rattle.command.specs.declared.Header.{Header}
@@ -111,13 +112,27 @@ pub count-most : (h : Header) (n : ℕ) → ((isCode (h .sender) && leb (h .seco
 unfolding isCount
 count-most h n e = leb-true n 16 (both (leb 1 n) (leb n 16) (both (isCode (h .sender) && leb (h .second) 86399) (isCount n) e .1) .1)
 
--- ---- rows: how many they are, and when they are in range
+-- ---- rows: how many they are, one more at their end, and when they are in range
+
+-- the item at a place of the arrays
+abbrev pub itemAt : ℕ → List ℕ → List ℕ → List ℤ → Item
+itemAt i a t v = record { account = part (i * 10) 10 a; type = getD t i 0; value = getD v i (pos 0) }
 
 module _ (a t : List ℕ) (v : List ℤ) where
   pub items-length : (i n : ℕ) → length (itemsFrom i n a t v) ≡ n
   unfolding itemsFrom
   items-length i zero = refl
   items-length i (suc n) = ap suc (items-length (suc i) n)
+
+  items-grow : (k n : ℕ) → itemsFrom k (suc n) a t v ≡ itemsFrom k n a t v ++ (itemAt (k + n) a t v ∷ [])
+  unfolding itemsFrom
+  items-grow k zero = let z : k + 0 ≡ k = omega arith in rw z
+  items-grow k (suc n) = let z : k + suc n ≡ suc k + n = omega arith in rw z (ap (λ l. itemAt k a t v ∷ l) (items-grow (suc k) n))
+
+  pub items-next : (i : ℕ) → itemsFrom 0 (i + 1) a t v ≡ itemsFrom 0 i a t v ++ (itemAt i a t v ∷ [])
+  items-next i =
+      let z : 0 + i ≡ i = omega arith in
+      ap (λ n. itemsFrom 0 n a t v) (add-one i) ∙ items-grow 0 i ∙ ap (λ j. itemsFrom 0 i a t v ++ (itemAt j a t v ∷ [])) z
 
   pub items-fit : (i n : ℕ) → (i + n) * 10 ≤ length a → areBytes a ≡ true → ((k : ℕ) → getD t k 0 < 256) → ((k : ℕ) → isMoney (getD v k (pos 0)) ≡ true)
       → every isItem (itemsFrom i n a t v) ≡ true
