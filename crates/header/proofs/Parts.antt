@@ -22,7 +22,7 @@ use Rattle.table.proofs.Found.{place-is, place-known, account-at}
 use Rattle.book.specs.Entries.{entriesOf}
 use Rattle.book.proofs.Laws.{entries-length}
 use Rattle.promise.specs.View.{viewOf}
-use Rattle.items.specs.declared.Flags.{Flags}
+use Rattle.item_list.specs.declared.Flags.{Flags}
 use Rattle.items.specs.Items.{Flagged, Named}
 use Rattle.items.proofs.Laws.{items-checked, limit-checked}
 use Rattle.header.specs.Parts.{headerChecks, namedChecks}

@@ -14,7 +14,7 @@ ghost use Rattle.header.specs.Parts.{headerChecks, namedChecks};
 use account::is_bank;
 use book::has_id;
 use command::Header;
-use items::Flags;
+use item_list::Flags;
 use items::has_branch;
 use message::is_current;
 use message::is_message_id;

@@ -1,21 +1,17 @@
--- What the flags say of a message's checks, and how they come about from item to item. Assumes nothing.
+-- What the flags say of a message's checks, and how they come about. Assumes nothing.
 use mathlib.Core.Path.{_≡_, refl, sym, ap, ap₂, _∙_, subst}
 use mathlib.Core.Bool.{Bool, true, false, _&&_, _||_, and-true}
 use mathlib.Core.List.{List, [], _∷_}
-use Prim.Native.Nat.{ℕ, suc, _-_, _*_, _<_}
+use Prim.Native.Nat.{ℕ, suc, _<_}
 use native.Mathlib.Omega.{arith}
 use lib.Dec.{T, ltb, ltb→lt}
-use lib.IntN.{ℤ, pos}
 use lib.ListN.{length, take, drop, getD}
 use lib.Seq.{drop-length, drop-cons}
-use Rattle.amount.specs.Amount.{isLimit}
-use Rattle.octets.specs.Octets.{part}
 use Rattle.rules.specs.Account as Rule
 use Rattle.rules.specs.Account.{blank, known, at}
 use Rattle.rules.specs.Command.{Header, Item, Change, Deletion, every, some?}
 use Rattle.rules.specs.Machine.{Machine, hasBookPlace, checks, firstFailure}
 use Rattle.rules.specs.Message.{named, ownedBy, isBranchOf, isLater, isType, limitChecks}
-use Rattle.command.specs.View.{itemsFrom}
 use Rattle.account.specs.declared.Account.{Account}
 use Rattle.account.specs.View.{toAccount}
 use Rattle.table.specs.declared.Table.{Table}
@@ -23,8 +19,12 @@ use Rattle.table.specs.Promise.{Good, Slot}
 use Rattle.table.specs.View.{accountsOf, placeOf}
 use Rattle.table.proofs.Found.{place-is, place-known, account-at}
 use Rattle.table.proofs.Places.{accounts-length, accounts-at}
-use Rattle.items.specs.declared.Flags.{Flags}
-use Rattle.items.specs.Items.{Flagged, Named, Tested, Stepped, isOwn, isInTime}
+use Rattle.branches.specs.declared.Branches.{Branches}
+use Rattle.branches.specs.Marks.{Marked}
+use Rattle.branches.proofs.Lookup.{owned-found, later-found}
+use Rattle.item_list.specs.declared.Flags.{Flags}
+use Rattle.item_list.specs.Records.{allFlagged}
+use Rattle.items.specs.Items.{limits, Flagged, Named, Tested, isOwn, isInTime}
 
 -- ---- the checks of a message by its flags
 
@@ -71,16 +71,6 @@ module _ (t : Table) (g : Good t) (long : length (t .accounts) ≡ 64) where
       owned-is = r .owned-is ∙ own-is (named i) p j e s d h;
     }
 
-    pub item-tested : (h : Header) (kind : ℕ) (v : ℤ) (is : List Item) (f r : Flags) → Flagged h (accountsOf t) is f
-        → Stepped h (ltb p (t .count)) (toAccount (getD (t .accounts) j d)) kind v f r → Flagged h (accountsOf t) (record { account = i; type = kind; value = v } ∷ is) r
-    unfolding every isLater isBranchOf
-    item-tested h kind v is f r w q = record {
-      later-is = q .later-step ∙ ap₂ (λ a b. a && b) (in-time-is (named i) p j e s d h) (w .later-is);
-      typed-is = q .typed-step ∙ ap (λ b. isType kind && b) (w .typed-is);
-      owned-is = q .owned-step ∙ ap₂ (λ a b. a && b) (own-is (named i) p j e s d h) (w .owned-is);
-      ranged-is = q .ranged-step ∙ ap (λ b. isLimit v && b) (w .ranged-is);
-    }
-
   -- ---- the branches of a bank
 
   module _ (bank i : ℕ) (d : Account) (h : i < t .count) where
@@ -97,14 +87,20 @@ module _ (t : Table) (g : Good t) (long : length (t .accounts) ≡ 64) where
       ap (λ n. some? (λ (x : Rule.Account). ownedBy bank (x .owner)) (drop n (accountsOf t))) (sym (accounts-length t (g .within) long))
       ∙ ap (some? (λ (x : Rule.Account). ownedBy bank (x .owner))) (drop-length (accountsOf t))
 
--- ---- the items from the last to the first
+-- ---- all items of a change
 
-pub flagged-none : (h : Header) (xs : List Rule.Account) (n : ℕ) (a ts : List ℕ) (vs : List ℤ) → Flagged h xs (itemsFrom n (n - n) a ts vs) (record { later = true; typed = true; owned = true; ranged = true })
-unfolding every itemsFrom
-flagged-none h xs n a ts vs = let z : n - n ≡ 0 = omega arith in
-    rw z (record { later-is = refl; typed-is = refl; owned-is = refl; ranged-is = refl })
+every-limit : (p : Item → Bool) (q : List ℕ × ℕ → Bool) → ((i : Item) → p i ≡ q (i .account, i .type)) → (is : List Item) → every p is ≡ every q (limits is)
+unfolding every
+every-limit p q e [] = refl
+every-limit p q e (i ∷ is) = ap₂ (λ a b. a && b) (e i) (every-limit p q e is)
 
-pub items-back : (n i : ℕ) (a ts : List ℕ) (vs : List ℤ) → i < n
-    → itemsFrom i (n - i) a ts vs ≡ record { account = part (i * 10) 10 a; type = getD ts i 0; value = getD vs i (pos 0) } ∷ itemsFrom (suc i) (n - suc i) a ts vs
-unfolding itemsFrom
-items-back n i a ts vs h = let e : n - i ≡ suc (n - suc i) = omega arith in rw e
+-- by the marks of the sender's branches
+pub items-flagged : (t : Table) → Good t → (h : Header) (b : Branches) → Marked (h .sender) (h .moment) t b → (is : List Item)
+    → Flagged h (accountsOf t) is (allFlagged b (record { later = true; typed = true; owned = true; ranged = true }) is)
+unfolding allFlagged isLater
+items-flagged t g h b m is = record {
+  later-is = every-limit _ _ (λ i. later-found t g (h .sender) (h .moment) b m (named (i .account))) is;
+  typed-is = every-limit _ _ (λ i. refl) is;
+  owned-is = every-limit _ _ (λ i. owned-found t g (h .sender) (h .moment) b m (named (i .account))) is;
+  ranged-is = refl;
+}

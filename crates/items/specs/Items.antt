@@ -3,12 +3,11 @@ use mathlib.Core.Path.{_≡_}
 use mathlib.Core.Bool.{Bool, true, not, _&&_, _||_}
 use mathlib.Core.List.{List, map}
 use Prim.Native.Nat.{ℕ}
-use lib.IntN.{ℤ}
 use Rattle.amount.specs.Amount.{isLimit}
 use Rattle.rules.specs.Account as Rule
 use Rattle.rules.specs.Command.{Header, Item, every}
 use Rattle.rules.specs.Message.{named, ownedBy, isBranchOf, later, isLater, isType}
-use Rattle.items.specs.declared.Flags.{Flags}
+use Rattle.item_list.specs.declared.Flags.{Flags}
 
 -- the limits that items name: an account id and a type each
 abbrev pub limits : List Item → List (List ℕ × ℕ)
@@ -40,10 +39,3 @@ pub record Tested (h : Header) (known : Bool) (x : Rule.Account) (kind : ℕ) (f
   pub typed-is : f .typed ≡ isType kind
   pub owned-is : f .owned ≡ isOwn h known x
   pub ranged-is : f .ranged ≡ true
-
--- r is the flags f with one item more in front
-pub record Stepped (h : Header) (known : Bool) (x : Rule.Account) (kind : ℕ) (value : ℤ) (f r : Flags) : Type 0 where
-  pub later-step : r .later ≡ (isInTime h known x && f .later)
-  pub typed-step : r .typed ≡ (isType kind && f .typed)
-  pub owned-step : r .owned ≡ (isOwn h known x && f .owned)
-  pub ranged-step : r .ranged ≡ (isLimit value && f .ranged)

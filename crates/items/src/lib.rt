@@ -8,25 +8,18 @@ ghost use Rattle.command.specs.View.{toHeader, itemsFrom};
 ghost use Rattle.account.specs.View.{toAccount};
 ghost use Rattle.table.specs.View.{accountsOf};
 ghost use Rattle.table.specs.Promise.{Good};
-ghost use Rattle.items.specs.Items.{Tested, Stepped, Flagged};
+ghost use Rattle.items.specs.Items.{Tested, Flagged};
 use account::Account;
 use account::is_later;
 use account::is_owned_by;
-use amount::is_limit;
+use branches::branches_of;
 use command::Header;
+use item_list::Flags;
+use item_list::Review;
+use item_list::check_first;
+use item_list::records;
 use message::is_type;
-use message::named;
 use table::Table;
-use table::place;
-use table::slot;
-
-// Whether checks 18, 19, 20 and 6 pass.
-pub struct Flags {
-    pub later: bool,
-    pub typed: bool,
-    pub owned: bool,
-    pub ranged: bool,
-}
 
 // One named limit, which has no value here. Where its code is not known, x is any account.
 pub fn test_limit(x: Account, known: bool, kind: u8, header: Header) -> Flags
@@ -38,19 +31,6 @@ pub fn test_limit(x: Account, known: bool, kind: u8, header: Header) -> Flags
         typed: is_type(kind),
         owned: owned,
         ranged: true,
-    }
-}
-
-// The flags with one item more.
-fn test_item(f: Flags, x: Account, known: bool, kind: u8, value: i64, header: Header) -> Flags
-    ensures { λ r. ⌜ ((id : List ℕ) → Stepped (toHeader header id) known (toAccount x) kind value f r) ⌝ }
-{
-    let g = test_limit(x, known, kind, header);
-    Flags {
-        later: g.later & f.later,
-        typed: g.typed & f.typed,
-        owned: g.owned & f.owned,
-        ranged: is_limit(value) & f.ranged,
     }
 }
 
@@ -66,21 +46,19 @@ pub fn test_items(
     requires { ⌜ (Good t) × (n ≤ 16) ⌝ }
     ensures { λ r. ⌜ ((id : List ℕ) → Flagged (toHeader header id) (accountsOf t) (itemsFrom 0 n accounts types values) r) ⌝ }
 {
-    let count = t.count;
-    let mut f = Flags {
+    let branches = branches_of(t, header.sender, header.day, header.second);
+    let flags = Flags {
         later: true,
         typed: true,
         owned: true,
         ranged: true,
     };
-    let mut i = n;
-    while i > 0 {
-        i -= 1;
-        let p = place(&t.codes, count, named(&accounts, i * 10));
-        let j = slot(p);
-        f = test_item(f, t.accounts[j], p < count, types[i], values[i], header);
-    }
-    f
+    let start = Review {
+        branches: branches,
+        flags: flags,
+    };
+    let r = check_first(records(accounts, types, values, n), n, start);
+    r.flags
 }
 
 // Whether a bank has at least one branch.
