@@ -15,7 +15,8 @@ use Rattle.octets.proofs.Places.{number-one}
 use Rattle.rules.specs.Command as Rule
 use Rattle.rules.specs.Command.{isCount}
 use Rattle.rules.specs.Message.{decimal}
-use Rattle.frame.specs.Field.{Plain, size, rowSize, width, sixDigits, wordAt, may, plainValue, rowValue, rowsValue, valueOf, areFields, allValues}
+use Rattle.field_tests.specs.Place.{sixDigits, wordAt}
+use Rattle.frame.specs.Field.{Plain, size, rowSize, width, may, plainValue, rowValue, rowsValue, valueOf, areFields, allValues}
 use Rattle.frame.specs.Frame.{K07, K08, K09, kindByte, itemRow, idRow, fieldsOf, isFrame, headerOf, itemOf, idOf, commandOf, commandsOf}
 use Rattle.frame.proofs.Digits.{both}
 use Rattle.command.specs.declared.Header.{Header}

@@ -14,7 +14,8 @@ use borrow.Author.Tests.{leb-true, le-leb, lt-ltb}
 use Rattle.octets.specs.Octets.{areBytes, part}
 use Rattle.rules.specs.Command.{every}
 use Rattle.rules.specs.Message.{isDigit, decimal}
-use Rattle.frame.specs.Field.{digits, sixDigits}
+use Rattle.field_tests.specs.Place.{sixDigits}
+use Rattle.frame.specs.Field.{digits}
 
 -- ---- tests
 

@@ -4,7 +4,7 @@ use mathlib.Core.List.{List, [], _∷_, map}
 use mathlib.Core.Bool.{Bool, true, false, _&&_, and-eq-true-iff}
 use Prim.Native.Nat.{ℕ, zero, suc, _+_, _*_, _<_, _≤_}
 use native.Mathlib.Omega.{arith}
-use native.Mathlib.Nat.{mul-le-mul, mul-le-mul-right}
+use native.Mathlib.Nat.{mul-le-mul-right}
 use native.Mathlib.Decide.{decLe}
 use borrow.Author.Tests.{leb-true, eqb-true}
 use lib.ListN.{length, getD, take, List·getD-eq-default}
@@ -18,10 +18,6 @@ both : (a b : Bool) → (a && b) ≡ true → (a ≡ true) × (b ≡ true)
 both a b = and-eq-true-iff a b .0
 
 -- ---- the layout that the kind byte x chooses
-
--- a count's rows are few
-pub rows-small : {n k : ℕ} → n < 20 → k < 256 → k * n ≤ 255 * 19
-rows-small h g = mul-le-mul {n₂ = 255} {m₂ = 19} (omega arith) (omega arith)
 
 pub kind : (b : List ℕ) (x k : ℕ) (r : Bool) → x ≡ k → x ≡ getD b 0 0 → r ≡ areFields (layout k) b 1 → r ≡ isFrame b
 unfolding isFrame

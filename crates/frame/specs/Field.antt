@@ -8,7 +8,8 @@ use lib.IntN.{ℤ}
 use lib.Dec.{leb, ltb, eqb}
 use Rattle.octets.specs.Octets.{bigEndian, number, isBytes, signed, isMoney, money, part}
 use Rattle.rules.specs.Command.{isCode, isCount, every}
-use Rattle.rules.specs.Message.{isDigit, decimal}
+use Rattle.rules.specs.Message.{decimal}
+use Rattle.field_tests.specs.Place.{sixDigits, wordAt}
 
 -- a field that takes any bytes
 pub data Plain : Type 0 where
@@ -45,14 +46,6 @@ width (Items ps) b i = 1 + getD b i 0 * rowSize ps
 width Never b i = 0
 
 -- ---- what the bytes may be
-
-unfoldable pub sixDigits : List ℕ → ℕ → Bool
-sixDigits b i =
-    isDigit (getD b i 0) && (isDigit (getD b (i + 1) 0) && (isDigit (getD b (i + 2) 0)
-    && (isDigit (getD b (i + 3) 0) && (isDigit (getD b (i + 4) 0) && isDigit (getD b (i + 5) 0)))))
-
-unfoldable pub wordAt : List ℕ → ℕ → ℕ
-wordAt b i = ((getD b i 0 * 256 + getD b (i + 1) 0) * 256 + getD b (i + 2) 0) * 256 + getD b (i + 3) 0
 
 -- the field that begins at the place i
 unfoldable pub may : Field → List ℕ → ℕ → Bool

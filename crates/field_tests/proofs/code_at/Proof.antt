@@ -1,7 +1,7 @@
-use Rattle.frame.specs.Field.{sixDigits}
+use Rattle.field_tests.specs.Place.{sixDigits}
 use borrow.Author.Needs.{needs}
-use Rattle.frame.proofs.code_at.Statement.{statement}
-use Rattle.frame.proofs.code_at.Tie as tie
+use Rattle.field_tests.proofs.code_at.Statement.{statement}
+use Rattle.field_tests.proofs.code_at.Tie as tie
 
 digit-at-requires : tie.Need-digit-at-requires
 digit-at-requires c κs = search needs

@@ -1,7 +1,7 @@
 use mathlib.Core.Path.{refl}
 use Rattle.rules.specs.Message.{isDigit}
-use Rattle.frame.proofs.is_digit.Statement.{statement}
-use Rattle.frame.proofs.is_digit.Tie as tie
+use Rattle.field_tests.proofs.is_digit.Statement.{statement}
+use Rattle.field_tests.proofs.is_digit.Tie as tie
 
 returns : tie.Need-returns
 unfolding isDigit
