@@ -1,17 +1,9 @@
-// A byte and a code written into a slice.
+// A code written into a slice.
 ghost use mathlib.Core.Path.{_≡_};
-ghost use mathlib.Core.List.{[], _∷_};
-ghost use Prim.Native.Nat.{_+_, _%_, _≤_, _<_};
+ghost use Prim.Native.Nat.{_+_, _%_, _≤_};
 ghost use lib.ListN.{length};
 ghost use Rattle.octets.specs.Octets.{write};
 ghost use Rattle.frame.specs.Field.{digits};
-
-pub fn put_byte(s: &mut [u8], at: usize, x: u8)
-    requires { ⌜ at < length (now s) ⌝ }
-    ensures { λ _. ⌜ now (s .exit) ≡ write (now (s .entry)) at (x ∷ []) ⌝ }
-{
-    s[at] = x;
-}
 
 // The last digit of n, in ASCII.
 fn digit(n: u32) -> u8

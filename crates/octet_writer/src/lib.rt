@@ -1,9 +1,17 @@
-// Numbers written to slices, the high byte first.
+// A byte written to a slice, and numbers, the high byte first.
 ghost use mathlib.Core.Path.{_≡_};
-ghost use Prim.Native.Nat.{_+_, _≤_};
+ghost use mathlib.Core.List.{[], _∷_};
+ghost use Prim.Native.Nat.{_+_, _≤_, _<_};
 ghost use lib.ListN.{length};
 ghost use Rattle.octets.specs.Octets.{bigEndian, twos, money, write};
 use amount::split;
+
+pub fn put_byte(s: &mut [u8], at: usize, x: u8)
+    requires { ⌜ at < length (now s) ⌝ }
+    ensures { λ _. ⌜ now (s .exit) ≡ write (now (s .entry)) at (x ∷ []) ⌝ }
+{
+    s[at] = x;
+}
 
 pub fn bits_of(x: i64) -> u64
     ensures { λ r. ⌜ r ≡ twos x ⌝ }

@@ -11,10 +11,10 @@ ghost use Rattle.account.specs.View.{toAccount};
 ghost use Rattle.report_line.specs.Lines.{toLine};
 use account::Account;
 use holding::state_of;
+use octet_writer::put_byte;
 use report_line::Line;
 use report_line::lpo_line;
 use report_line::ltk_line;
-use report_line::put_byte;
 use report_line::put_line;
 
 fn put_lines(out: &mut [u8], at: usize, ltk: Line, lpo: Line)

@@ -16,6 +16,7 @@ ghost use Rattle.report_line.specs.Lines.{toLine};
 use account::Limit;
 use amount::percent;
 use amount::size;
+use octet_writer::put_byte;
 use octet_writer::put_i64;
 use octet_writer::put_u16;
 
@@ -30,13 +31,6 @@ pub struct Line {
 }
 
 // ---- bytes
-
-pub fn put_byte(s: &mut [u8], at: usize, b: u8)
-    requires { ⌜ at < length (now s) ⌝ }
-    ensures { λ _. ⌜ now (s .exit) ≡ write (now (s .entry)) at (b ∷ []) ⌝ }
-{
-    s[at] = b;
-}
 
 pub fn put_line(s: &mut [u8], at: usize, l: Line)
     requires { ⌜ at + 28 ≤ length (now s) ⌝ }
