@@ -7,11 +7,11 @@ use Prim.Native.Nat.{ℕ, zero, suc, _+_, _-_, _*_, _≤_, _<_}
 use native.Mathlib.Numerals.{add-one}
 use native.Mathlib.Omega.{arith}
 use lib.Dec.{leb, eqb}
-use lib.ListN.{length, getD, take, drop, set, length-append, length-drop, length-set, take-append-drop}
-use lib.Seq.{take-suc, take-all, take-take, take-set-le, drop-drop, getD-drop, getD-take, getD-set-same}
+use lib.ListN.{length, getD, take, drop, set, length-append, length-set, take-append-drop}
+use lib.Seq.{take-take, take-set-le, drop-drop, getD-drop, getD-take, getD-set-same}
 use borrow.Author.Tests.{eq-eqb, ne-eqb, le-leb, lt-leb}
 use Rattle.octets.specs.Octets.{part, write}
-use Rattle.octets.proofs.Places.{part-length, write-is, write-length, write-other, write-part, write-then}
+use Rattle.octets.proofs.Places.{part-length, part-more, write-is, write-length, write-more, write-other, write-part}
 use Rattle.rules.specs.Command.{some?}
 use Rattle.rules.specs.Invariant.{All, Before, InOrder}
 use Rattle.rules.specs.Message.{sameBytes, Entry, inBook, keepFrom}
@@ -19,16 +19,6 @@ use Rattle.rules.proofs.Lists.{all-imp, all-join}
 use Rattle.book.specs.Entries.{entriesOf, Lengths, Added, FirstFrom, Dropped}
 
 -- ---- parts of a list and what is written over it
-
-part-more : (i k : ℕ) (l : List ℕ) → i + k < length l → part i (suc k) l ≡ part i k l ++ (getD l (i + k) 0 ∷ [])
-unfolding part
-part-more i k l h =
-    let inside : k < length (drop i l) = rw length-drop (omega arith) in
-    take-suc (drop i l) k 0 inside ∙ ap (λ (b : ℕ). take k (drop i l) ++ (b ∷ [])) (getD-drop i l k 0)
-
-pub part-whole : (n : ℕ) (l : List ℕ) → length l ≡ n → part 0 n l ≡ l
-unfolding part
-part-whole n l e = take-all n l (omega arith)
 
 part-part : (i k j : ℕ) (l : List ℕ) → part i k (drop j l) ≡ part (j + i) k l
 unfolding part
@@ -45,13 +35,6 @@ front-write : (n : ℕ) (l : List ℕ) (i : ℕ) (bs : List ℕ) → n ≤ i →
 unfolding write
 front-write n l i [] h = refl
 front-write n l i (b ∷ bs) h = front-write n (set l i b) (suc i) bs (omega arith) ∙ take-set-le n l i b h
-
--- k bytes of s are written, and then one more
-pub write-more : (l s : List ℕ) (i f k p q : ℕ) → p ≡ i + k → q ≡ f + k → q < length s → set (write l i (part f k s)) p (getD s q 0) ≡ write l i (part f (k + 1) s)
-unfolding write
-write-more l s i f k p q hp hq h =
-    let e : p ≡ i + length (part f k s) = omega (arith, part-length f k s (omega arith)) in
-    rw (add-one k, part-more f k s (omega arith), ← hq) (write-then l i (part f k s) (getD s q 0 ∷ []) p e)
 
 -- the first k are moved down, and then one more: its place is not written yet
 pub move-more : (l m : List ℕ) (f k : ℕ) → m ≡ write l 0 (part f k l) → f + k < length l → set m k (getD m (f + k) 0) ≡ write l 0 (part f (k + 1) l)
@@ -89,7 +72,7 @@ module _ (ids id : List ℕ) (p k j : ℕ) (last : suc k ≡ j) (in-ids : p + j 
   same-last : sameBytes (part p j ids) (part 0 j id) ≡ (sameBytes (part p k ids) (part 0 k id) && eqb (getD ids (p + k) 0) (getD id k 0))
   same-last =
       let z : 0 + k ≡ k = omega arith in
-      rw (← last, part-more p k ids (omega arith), part-more 0 k id (omega arith), z)
+      rw (← last, ← add-one k, part-more p k ids (omega arith), part-more 0 k id (omega arith), z)
       (same-join (part p k ids) (part 0 k id) (getD ids (p + k) 0) (getD id k 0) (part-length p k ids (omega arith) ∙ sym (part-length 0 k id (omega arith))))
 
   pub differ : (getD ids (p + k) 0 ≡ getD id k 0 → ⊥) → sameBytes (part p j ids) (part 0 j id) ≡ false

@@ -1,3 +1,4 @@
 pub mod ByKind
 pub mod Messages
 pub mod Forms
+pub mod Rows

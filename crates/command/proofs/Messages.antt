@@ -11,7 +11,7 @@ use lib.IntN.{ℤ, pos}
 use lib.Dec.{leb, eqb}
 use borrow.Author.Tests.{leb-true, eqb-true}
 use Rattle.octets.specs.Octets.{number, signed, part}
-use Rattle.octets.proofs.Places.{number-one}
+use Rattle.octets.proofs.Places.{part-part, number-one}
 use Rattle.rules.specs.Command as Rule
 use Rattle.rules.specs.Command.{isCount}
 use Rattle.rules.specs.Message.{decimal}
@@ -22,7 +22,6 @@ use Rattle.frame.proofs.Digits.{both}
 use Rattle.command.specs.declared.Header.{Header}
 use Rattle.command.specs.declared.Command.the-variants.{Change, Deletion, Query}
 use Rattle.command.specs.View.{toHeader, itemsFrom, idsFrom, toCommands}
-use Rattle.slices.proofs.Parts.{part-part}
 use Rattle.command.proofs.ByKind.{end, kind-fields, kind-length, kind-command}
 
 -- ---- rows by their places

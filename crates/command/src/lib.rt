@@ -8,10 +8,10 @@ ghost use Rattle.octets.specs.Octets.{number, signed, part};
 ghost use Rattle.rules.specs.Message.{decimal};
 ghost use Rattle.frame.specs.Frame.{isFrame, commandsOf};
 ghost use Rattle.command.specs.View.{ordered};
+use digits::code_at;
 use frame::well_formed;
 use octets::i64_at;
 use octets::u32_at;
-use slices::code_at;
 use slices::copy;
 
 // Of a limit message: sender code, creation day and second; the id stands in the order's array.

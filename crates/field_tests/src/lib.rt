@@ -7,6 +7,7 @@ ghost use lib.Dec.{leb, eqb};
 ghost use Rattle.rules.specs.Command.{isCount};
 ghost use Rattle.rules.specs.Message.{isDigit};
 ghost use Rattle.field_tests.specs.Place.{sixDigits, wordAt};
+use digits::is_digit;
 use rules::is_count;
 
 // The byte at i, and 0 past the end.
@@ -14,13 +15,6 @@ pub fn at(b: &[u8], i: usize) -> u8
     ensures { λ r. ⌜ r ≡ getD (now (b .entry)) i 0 ⌝ }
 {
     if i < b.len() { b[i] } else { 0 }
-}
-
-// An ASCII digit.
-pub fn is_digit(d: u8) -> bool
-    ensures { λ r. ⌜ r ≡ isDigit d ⌝ }
-{
-    (48 <= d) & (d <= 57)
 }
 
 fn digit_at(b: &[u8], i: usize) -> bool

@@ -7,14 +7,13 @@ use native.Mathlib.Omega.{arith}
 use native.Mathlib.Nat.{zero-add}
 use native.Mathlib.Numerals.{add-one}
 use lib.ListN.{length, drop, set, length-append}
-use lib.Seq.{take-all}
 use lib.IntN.{ℤ}
 use lib.Dec.{leb}
 use mir.Syntax.{w64}
 use mir.Val.{SFits, toZ, ofZ}
 use mir.Facts.{toZ-ofZ}
 use borrow.Author.Tests.{le-leb, lt-leb}
-use Rattle.octets.specs.Octets.{bigEndian, twos, money, part, write}
+use Rattle.octets.specs.Octets.{bigEndian, twos, money, write}
 use Rattle.octets.proofs.Numbers.{length-bigEndian}
 use Rattle.octets.proofs.Places.{write-then, write-is}
 use Rattle.rules.specs.Command.{Command, every, wellFormed}
@@ -115,10 +114,6 @@ unfolding commandFrame
 nothing-written f = filled-none [] f refl
 
 -- ---- messages
-
-pub part-whole : (k : ℕ) (l : List ℕ) → length l ≡ k → part 0 k l ≡ l
-unfolding part
-part-whole k l e = take-all k l (omega arith)
 
 -- what stands behind the kind and the header
 pub message : (f m g : List ℕ) (kind sender day second : ℕ) (id bs : List ℕ) → length id ≡ 32

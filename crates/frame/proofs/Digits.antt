@@ -5,13 +5,12 @@ use mathlib.Core.List.{List, [], _∷_, _++_, append-assoc, append-nil}
 use Prim.Native.Nat.{ℕ, zero, suc, _+_, _-_, _*_, _/_, _%_, _^_, _<_, _≤_}
 use native.Mathlib.Omega.{arith}
 use native.Mathlib.Nat.{pow-suc}
-use native.Mathlib.Numerals.{add-one}
-use lib.ListN.{length, take, drop, getD, length-append}
-use lib.Seq.{drop-cons, take-all}
+use lib.ListN.{length, getD, length-append}
 use lib.Dec.{leb}
 use lib.Arith.{digits-div, digits-mod}
 use borrow.Author.Tests.{leb-true, le-leb, lt-ltb}
-use Rattle.octets.specs.Octets.{areBytes, part}
+use Rattle.octets.specs.Octets.{areBytes}
+use Rattle.octets.proofs.Places.{whole-bytes}
 use Rattle.rules.specs.Command.{every}
 use Rattle.rules.specs.Message.{isDigit, decimal}
 use Rattle.field_tests.specs.Place.{sixDigits}
@@ -103,30 +102,11 @@ decimal-below-from j n (d ∷ ds) h k =
 pub decimal-below : (ds : List ℕ) → every isDigit ds ≡ true → decimal 0 ds < 10 ^ length ds
 decimal-below ds h = let e : 0 + length ds ≡ length ds = omega arith in rw e at (decimal-below-from 0 0 ds (omega arith) h)
 
--- ---- bytes by their places
-
--- n elements from i on
-abbrev pub places : List ℕ → ℕ → ℕ → List ℕ
-places b i zero = []
-places b i (suc n) = getD b i 0 ∷ places b (i + 1) n
-
-pub part-places : (n : ℕ) (b : List ℕ) (i : ℕ) → i + n ≤ length b → part i n b ≡ places b i n
-unfolding part
-part-places zero b i h = refl
-part-places (suc n) b i h =
-    ap (λ (t : List ℕ). take (suc n) t) (drop-cons b i 0 (omega arith))
-    ∙ ap (λ (k : ℕ). getD b i 0 ∷ take n (drop k b)) (sym (add-one i))
-    ∙ ap (λ (t : List ℕ). getD b i 0 ∷ t) (part-places n b (i + 1) (omega arith))
-
-pub all-places : (n : ℕ) (b : List ℕ) → length b ≡ n → b ≡ places b 0 n
-unfolding part
-all-places n b e = sym (take-all n b (omega arith)) ∙ part-places n b 0 (omega arith)
-
 -- six digits are six bytes that are digits
 pub six-digits : (ds : List ℕ) → length ds ≡ 6 → sixDigits ds 0 ≡ every isDigit ds
 unfolding sixDigits every
 six-digits ds e =
     sym
-    (ap (every isDigit) (all-places 6 ds e)
+    (ap (every isDigit) (whole-bytes 5 ds e)
     ∙ ap (λ (t : Bool). isDigit (getD ds 0 0) && (isDigit (getD ds 1 0) && (isDigit (getD ds 2 0) && (isDigit (getD ds 3 0) && (isDigit (getD ds 4 0) && t)))))
     (and-true (isDigit (getD ds 5 0))))

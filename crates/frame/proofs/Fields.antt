@@ -10,12 +10,12 @@ use lib.Dec.{leb, ltb}
 use borrow.Author.Tests.{ltb-true, leb-true, eqb-true, lt-ltb, eq-eqb}
 use Rattle.octets.specs.Octets.{bigEndian, numberFrom, number, areBytes, isBytes, part}
 use Rattle.octets.proofs.Numbers.{bytes-append, bytes-part, length-bigEndian, isBytes-bigEndian, number-bigEndian, bigEndian-number}
-use Rattle.octets.proofs.Places.{part-length}
+use Rattle.octets.proofs.Places.{part-length, whole-bytes}
 use Rattle.rules.specs.Command.{isCode, isCount, every}
 use Rattle.rules.specs.Message.{decimal}
 use Rattle.field_tests.specs.Place.{sixDigits, wordAt}
 use Rattle.frame.specs.Field.{Field, Code, UpTo, Second, Free, Items, Never, rowSize, width, may, Value, rowFits, fits, digits, rowsBytes, bytesOf, valueOf, areFields, Values, allFit, allBytes, allValues}
-use Rattle.frame.proofs.Digits.{both, digits-bytes, length-digits, digits-digits, decimal-digits, digits-decimal, decimal-below, all-places, six-digits}
+use Rattle.frame.proofs.Digits.{both, digits-bytes, length-digits, digits-digits, decimal-digits, digits-decimal, decimal-below, six-digits}
 use Rattle.frame.proofs.Rows.{is-bytes, bytes-are, isBytes-drop, plain-bytes, plain-back, plain-fits, plain-there, rows-bytes, rows-back, rows-length, rows-fits, rows-there}
 
 -- ---- one field
@@ -32,7 +32,7 @@ narrow Never = true
 -- four bytes as a number
 word-number : (bs : List ℕ) → length bs ≡ 4 → wordAt bs 0 ≡ number bs
 unfolding wordAt number numberFrom
-word-number bs e = sym (ap number (all-places 4 bs e) ∙ omega arith)
+word-number bs e = sym (ap number (whole-bytes 3 bs e) ∙ omega arith)
 
 count-range : (n : ℕ) → isCount n ≡ true → (1 ≤ n) × (n ≤ 16)
 unfolding isCount
@@ -87,7 +87,7 @@ unfolding may width bytesOf valueOf
 field-there Code bs b h =
     let q = bytes-are 6 bs b in
     ap (λ (k : ℕ). digits k (decimal 0 bs)) (sym (q .0)) ∙ digits-decimal bs (sym (six-digits bs (q .0)) ∙ h)
-field-there (UpTo m) bs b h = sym (all-places 1 bs (bytes-are 1 bs b .0))
+field-there (UpTo m) bs b h = sym (whole-bytes 0 bs (bytes-are 1 bs b .0))
 field-there Second bs b h =
     let q = bytes-are 4 bs b in
     ap (λ (k : ℕ). bigEndian k (number bs)) (sym (q .0)) ∙ bigEndian-number bs (q .1)

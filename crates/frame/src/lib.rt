@@ -1,9 +1,9 @@
 // Whether bytes are a frame.
 ghost use mathlib.Core.Path.{_≡_};
 ghost use Rattle.frame.specs.Frame.{isFrame};
+pub use digits::is_digit;
 use field_tests::at;
 use field_tests::code_at;
-pub use field_tests::is_digit;
 use field_tests::rows_at;
 use field_tests::second_at;
 use rules::is_method;

@@ -3,8 +3,9 @@ use mathlib.Core.Path.{_≡_, sym, ap, _∙_}
 use Prim.Native.Nat.{_-_, _≤_}
 use native.Mathlib.Omega.{arith}
 use Rattle.octets.specs.Octets.{part}
+use Rattle.octets.proofs.Places.{part-whole}
 use Rattle.rules.specs.Message.{sameBytes}
-use Rattle.book.proofs.Laws.{part-whole, differ, agree}
+use Rattle.book.proofs.Laws.{differ, agree}
 use Rattle.book.proofs.same_id.Statement.{statement}
 use Rattle.book.proofs.same_id.Tie as tie
 

@@ -4,7 +4,7 @@ use borrow.Author.Tests.{not-true, not-false}
 use Rattle.frame.specs.Field.{size, width, plainValue, valueOf, allValues}
 use Rattle.frame.specs.Frame.{K01, K02, K03, K04, K05, K06, K0a, kindByte, fieldsOf, commandOf}
 use Rattle.command.specs.View.{toCommands}
-use Rattle.slices.proofs.Parts.{part-first}
+use Rattle.octets.proofs.Places.{part-first}
 use Rattle.command.proofs.ByKind.{end, frame-some, frame-none, kind-length, kind-command, kind-none, ordered-is}
 use borrow.Author.Needs.{needs}
 use Rattle.command.proofs.parse.Statement.{statement}

@@ -2,8 +2,9 @@ use mathlib.Core.Path.{_≡_, refl, ap, _∙_}
 use lib.ListN.{length}
 use Rattle.octets.specs.Octets.{write}
 use Rattle.octets.proofs.Numbers.{length-bigEndian}
+use Rattle.octets.proofs.Places.{part-whole}
 use Rattle.frame.proofs.Digits.{length-digits}
-use Rattle.field_writer.proofs.Fields.{behind, part-whole}
+use Rattle.field_writer.proofs.Fields.{behind}
 use borrow.Author.Needs.{needs}
 use Rattle.message_writer.proofs.put_header.Statement.{statement}
 use Rattle.message_writer.proofs.put_header.Tie as tie

@@ -6,10 +6,10 @@ use lib.ListN.{getD}
 use Rattle.octets.specs.Octets.{part}
 use Rattle.rules.specs.Command.{every}
 use Rattle.rules.specs.Message.{isDigit}
-use Rattle.message.proofs.Laws.{digit-here, digit-none, not-true, not-false}
+use Rattle.digits.proofs.Laws.{digit-here, digit-none, not-true, not-false}
 use borrow.Author.Needs.{needs}
-use Rattle.message.proofs.digits.Statement.{statement}
-use Rattle.message.proofs.digits.Tie as tie
+use Rattle.digits.proofs.are_digits.Statement.{statement}
+use Rattle.digits.proofs.are_digits.Tie as tie
 
 abbrev Inv-loop : tie.InvT-loop
 Inv-loop m at n i₀ i = (i ≤ n) × (every isDigit (part at n m) ≡ every isDigit (part (at + i) (n - i) m))
@@ -68,8 +68,8 @@ returns-2 c =
     let e : s .args .n - l .loop .i ≡ 0 = omega arith in
     sym (l .loop .inv .1 ∙ rw e (digit-none (s .args .m .now) i))
 
-pub digits-spec : {M : Type 1} → statement M
-digits-spec =
+pub are-digits-spec : {M : Type 1} → statement M
+are-digits-spec =
     tie.close
     (tie.spec
     Inv-loop
