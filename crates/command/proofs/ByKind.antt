@@ -5,9 +5,9 @@ use mathlib.Core.List.{List, [], _∷_}
 use Prim.Native.Nat.{ℕ, _+_, _<_}
 use lib.ListN.{length, getD}
 use borrow.Author.Tests.{eqb-true}
+use Rattle.octets.proofs.Numbers.{both}
 use Rattle.frame.specs.Field.{Field, width, may, areFields, allValues}
 use Rattle.frame.specs.Frame.{Kind, K01, K02, K03, K04, K05, K06, K07, K08, K09, K0a, kindByte, fieldsOf, layout, isFrame, commandOf, kindAt, commandAt, commandsOf}
-use Rattle.frame.proofs.Digits.{both}
 use Rattle.frame.proofs.Fields.{fields-within}
 use Rattle.frame.proofs.Commands.{kind-layout, kind-back, kind-of-byte}
 use Rattle.command.specs.declared.Command.{Command as Ordered}

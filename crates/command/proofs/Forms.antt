@@ -15,10 +15,9 @@ use denote.Array.{each}
 use denote.Shadow.{shadow}
 use denote.Signed.{SInt}
 use Rattle.octets.specs.Octets.{areBytes, isBytes, isMoney, part}
-use Rattle.octets.proofs.Numbers.{bytes-part}
+use Rattle.octets.proofs.Numbers.{bytes-part, both}
 use Rattle.octets.proofs.Places.{part-length}
 use Rattle.rules.specs.Command.{Item, Funding, Withdrawal, BankLimits, Payment, Change, Deletion, Query, every, isCode, isDay, isCount, isHeader, isItem, wellFormed}
-use Rattle.frame.proofs.Digits.{both}
 use Rattle.frame.proofs.Rows.{is-bytes}
 use Rattle.command.specs.declared.Header.{Header}
 use Rattle.command.specs.View.{toHeader, itemsFrom, idsFrom}

@@ -11,6 +11,7 @@ use lib.IntN.{ℤ, pos}
 use lib.Dec.{leb, eqb}
 use borrow.Author.Tests.{leb-true, eqb-true}
 use Rattle.octets.specs.Octets.{number, signed, part}
+use Rattle.octets.proofs.Numbers.{both}
 use Rattle.octets.proofs.Places.{part-part, number-one}
 use Rattle.rules.specs.Command as Rule
 use Rattle.rules.specs.Command.{isCount}
@@ -18,7 +19,6 @@ use Rattle.rules.specs.Message.{decimal}
 use Rattle.field_tests.specs.Place.{sixDigits, wordAt}
 use Rattle.frame.specs.Field.{Plain, size, rowSize, width, may, plainValue, rowValue, rowsValue, valueOf, areFields, allValues}
 use Rattle.frame.specs.Frame.{K07, K08, K09, kindByte, itemRow, idRow, fieldsOf, isFrame, headerOf, itemOf, idOf, commandOf, commandsOf}
-use Rattle.frame.proofs.Digits.{both}
 use Rattle.command.specs.declared.Header.{Header}
 use Rattle.command.specs.declared.Command.the-variants.{Change, Deletion, Query}
 use Rattle.command.specs.View.{toHeader, itemsFrom, idsFrom, toCommands}

@@ -13,14 +13,14 @@ use mir.Syntax.{w64}
 use mir.Val.{SFits, toZ, ofZ}
 use mir.Facts.{toZ-ofZ}
 use borrow.Author.Tests.{le-leb, lt-leb}
-use Rattle.octets.specs.Octets.{bigEndian, twos, money, write}
-use Rattle.octets.proofs.Numbers.{length-bigEndian}
+use Rattle.octets.specs.Octets.{bigEndian, money, write}
+use Rattle.octets.proofs.Numbers.{length-bigEndian, both}
 use Rattle.octets.proofs.Places.{write-then, write-is}
 use Rattle.rules.specs.Command.{Command, every, wellFormed}
 use Rattle.frame.specs.Field.{Field, width, digits, bytesOf, fits, Values, allFit, allBytes}
 use Rattle.frame.specs.Frame.{fieldsOf, kindOf, valuesOf, frameOf, given, commandFrame, writeFrame}
 use Rattle.frame.specs.Filled.{Filled}
-use Rattle.frame.proofs.Digits.{both, length-digits}
+use Rattle.frame.proofs.Digits.{length-digits}
 use Rattle.frame.proofs.Rows.{bytes-are}
 use Rattle.frame.proofs.Fields.{narrow, field-bytes}
 use Rattle.frame.proofs.Commands.{in-range, kind-narrow}
@@ -36,10 +36,6 @@ behind f m g i k a bs p e q = q ∙ ap (λ (t : List ℕ). write t (i + k) bs) p
 -- nothing behind a
 pub lastly : (m g : List ℕ) (i : ℕ) (a : List ℕ) → g ≡ write m i a → g ≡ write m i (a ++ [])
 lastly m g i a p = p ∙ ap (write m i) (sym (append-nil a))
-
-pub length-money : (z : ℤ) → length (money z) ≡ 8
-unfolding money
-length-money z = length-bigEndian 8 (twos z)
 
 -- a signed number comes back from its bits
 pub amount-kept : (m g : List ℕ) (i : ℕ) (z : ℤ) → SFits w64 z → g ≡ write m i (money (toZ w64 (ofZ w64 z))) → g ≡ write m i (money z)

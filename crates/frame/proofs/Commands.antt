@@ -9,10 +9,10 @@ use lib.ListN.{getD, length-map}
 use lib.Dec.{ltb, eqb}
 use borrow.Author.Tests.{eqb-true}
 use Rattle.octets.specs.Octets.{isBytes}
+use Rattle.octets.proofs.Numbers.{both}
 use Rattle.rules.specs.Command.{Item, Command, Bank, Branch, Funding, Withdrawal, BankLimits, Payment, Change, Deletion, Query, Opening, every, isCode, isMethod, isDay, isHeader, isItem, wellFormed}
 use Rattle.frame.specs.Field.{Never, Row, Values, plainFits, rowFits, fits, may, areFields, allFit}
 use Rattle.frame.specs.Frame.{Kind, K01, K02, K03, K04, K05, K06, K07, K08, K09, K0a, kindByte, itemRow, idRow, fieldsOf, kinds, layout, kindOf, itemValues, idValues, valuesOf, itemOf, idOf, commandOf, kindAt}
-use Rattle.frame.proofs.Digits.{both}
 use Rattle.frame.proofs.Fields.{narrow}
 
 -- ---- lists

@@ -1,6 +1,6 @@
 -- A number and its ASCII digits give each other back. Assumes nothing.
 use mathlib.Core.Path.{_≡_, refl, sym, ap, ap₂, _∙_}
-use mathlib.Core.Bool.{Bool, true, false, _&&_, false≢true, and-true}
+use mathlib.Core.Bool.{Bool, true, _&&_, and-true}
 use mathlib.Core.List.{List, [], _∷_, _++_, append-assoc, append-nil}
 use Prim.Native.Nat.{ℕ, zero, suc, _+_, _-_, _*_, _/_, _%_, _^_, _<_, _≤_}
 use native.Mathlib.Omega.{arith}
@@ -10,6 +10,7 @@ use lib.Dec.{leb}
 use lib.Arith.{digits-div, digits-mod}
 use borrow.Author.Tests.{leb-true, le-leb, lt-ltb}
 use Rattle.octets.specs.Octets.{areBytes}
+use Rattle.octets.proofs.Numbers.{both}
 use Rattle.octets.proofs.Places.{whole-bytes}
 use Rattle.rules.specs.Command.{every}
 use Rattle.rules.specs.Message.{isDigit, decimal}
@@ -17,10 +18,6 @@ use Rattle.field_tests.specs.Place.{sixDigits}
 use Rattle.frame.specs.Field.{digits}
 
 -- ---- tests
-
-pub both : (a b : Bool) → (a && b) ≡ true → (a ≡ true) × (b ≡ true)
-both true b e = (refl, e)
-both false b e = absurd (false≢true e)
 
 pub every-append : {A : Type 0} (p : A → Bool) (a b : List A) → every p a ≡ true → every p b ≡ true → every p (a ++ b) ≡ true
 unfolding every

@@ -9,13 +9,13 @@ use lib.Seq.{take-at, drop-cons, drop-append-seam, drop-drop, getD-append-add, g
 use lib.Dec.{leb, ltb}
 use borrow.Author.Tests.{ltb-true, leb-true, eqb-true, lt-ltb, eq-eqb}
 use Rattle.octets.specs.Octets.{bigEndian, numberFrom, number, areBytes, isBytes, part}
-use Rattle.octets.proofs.Numbers.{bytes-append, bytes-part, length-bigEndian, isBytes-bigEndian, number-bigEndian, bigEndian-number}
+use Rattle.octets.proofs.Numbers.{bytes-append, bytes-part, length-bigEndian, isBytes-bigEndian, number-bigEndian, bigEndian-number, both}
 use Rattle.octets.proofs.Places.{part-length, whole-bytes}
 use Rattle.rules.specs.Command.{isCode, isCount, every}
 use Rattle.rules.specs.Message.{decimal}
 use Rattle.field_tests.specs.Place.{sixDigits, wordAt}
 use Rattle.frame.specs.Field.{Field, Code, UpTo, Second, Free, Items, Never, rowSize, width, may, Value, rowFits, fits, digits, rowsBytes, bytesOf, valueOf, areFields, Values, allFit, allBytes, allValues}
-use Rattle.frame.proofs.Digits.{both, digits-bytes, length-digits, digits-digits, decimal-digits, digits-decimal, decimal-below, six-digits}
+use Rattle.frame.proofs.Digits.{digits-bytes, length-digits, digits-digits, decimal-digits, digits-decimal, decimal-below, six-digits}
 use Rattle.frame.proofs.Rows.{is-bytes, bytes-are, isBytes-drop, plain-bytes, plain-back, plain-fits, plain-there, rows-bytes, rows-back, rows-length, rows-fits, rows-there}
 
 -- ---- one field

@@ -1,21 +1,19 @@
 -- Laws behind the test of a frame: the layout that a kind byte chooses, how long a frame may be, and a buffer filled with one. Assumes nothing.
 use mathlib.Core.Path.{_≡_, refl, sym, ap, _∙_}
 use mathlib.Core.List.{List, [], _∷_, map}
-use mathlib.Core.Bool.{Bool, true, false, _&&_, and-eq-true-iff}
+use mathlib.Core.Bool.{Bool, true, false, _&&_}
 use Prim.Native.Nat.{ℕ, zero, suc, _+_, _*_, _<_, _≤_}
 use native.Mathlib.Omega.{arith}
 use native.Mathlib.Nat.{mul-le-mul-right}
 use native.Mathlib.Decide.{decLe}
 use borrow.Author.Tests.{leb-true, eqb-true}
-use lib.ListN.{length, getD, take, List·getD-eq-default}
+use lib.ListN.{length, getD, List·getD-eq-default}
 use lib.Dec.{leb}
+use Rattle.octets.proofs.Numbers.{both}
 use Rattle.rules.specs.Command.{isCount}
 use Rattle.frame.specs.Field.{Field, Code, UpTo, Second, Free, Items, Never, size, rowSize, width, may, areFields}
 use Rattle.frame.specs.Frame.{kinds, fieldsOf, layout, isFrame}
 use Rattle.frame.specs.Filled.{Filled}
-
-both : (a b : Bool) → (a && b) ≡ true → (a ≡ true) × (b ≡ true)
-both a b = and-eq-true-iff a b .0
 
 -- ---- the layout that the kind byte x chooses
 

@@ -7,6 +7,7 @@ use native.Mathlib.Omega.{arith}
 use lib.Dec.{T, ltb, ltb→lt}
 use lib.ListN.{length, take}
 use Rattle.octets.specs.Octets.{write}
+use Rattle.octets.proofs.Places.{take-none}
 use Rattle.rules.specs.Account as Rule
 use Rattle.rules.specs.Account.{codes}
 use Rattle.rules.specs.Command.{Header, Command, Bank, Branch, Funding, Withdrawal, BankLimits, Payment, Change, Deletion, Query, Opening}
@@ -161,10 +162,6 @@ no-report xs (Change h is) s = refl
 no-report xs (Deletion h i t) s = refl
 no-report xs (Query h is) s = absurd s
 no-report xs (Opening d) s = refl
-
-take-none : (l : List ℕ) → take 0 l ≡ []
-take-none [] = refl
-take-none (x ∷ l) = refl
 
 silent-outcome : (m : Machine) (room : ℕ) (k : Command) → T (silent k) → record { answer = answer m (lent 0 k); report = [] } ≡ outcome m (lent room k)
 unfolding outcome ifAccepted

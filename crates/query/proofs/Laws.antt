@@ -8,7 +8,7 @@ use borrow.Author.Tests.{leb-true}
 use lib.Dec.{T, leb, ltb, ltb→lt}
 use lib.ListN.{length, take, drop}
 use Rattle.octets.specs.Octets.{part, write}
-use Rattle.octets.proofs.Places.{write-part}
+use Rattle.octets.proofs.Places.{take-none, write-part}
 use Rattle.rules.specs.Account.{known}
 use Rattle.rules.specs.Command.{Header, Command, Query, some?, wellFormed}
 use Rattle.rules.specs.Machine.{hasBookPlace, checks, effect, firstFailure, answer, ifAccepted, next, outcome}
@@ -24,10 +24,6 @@ use Rattle.promise.specs.View.{viewOf, lent, outcomeOf, nextOf}
 use Rattle.promise.specs.Promise.{Sound, Played}
 use Rattle.promise.proofs.Laws.{unchanged, next-sound, next-effect, noted}
 use Rattle.blocks.specs.Written.{Written}
-
-take-none : (l : List ℕ) → take 0 l ≡ []
-take-none [] = refl
-take-none (x ∷ l) = refl
 
 -- a refusal writes nothing
 pub played-no : (k : Command) (t : Table) (ids days : List ℕ) (used : ℕ) (report : List ℕ) → Sound t ids days used

@@ -14,16 +14,12 @@ use lib.ListN.{length}
 use borrow.Author.Tests.{leb-true}
 use Rattle.amount.specs.Amount.{percent}
 use Rattle.amount.proofs.Integer.{abs, apart, ltZ-true, leZ-false, size-fits, diff-small}
-use Rattle.octets.specs.Octets.{bigEndian, twos, money, write}
-use Rattle.octets.proofs.Numbers.{length-bigEndian}
+use Rattle.octets.specs.Octets.{bigEndian, money, write}
+use Rattle.octets.proofs.Numbers.{length-money}
 use Rattle.octets.proofs.Places.{write-then}
 use Rattle.rules.specs.Report.{Line, lineBytes, lpoUsed, ltkUsed}
 
 -- ---- lengths
-
-length-money : (z : ℤ) → length (money z) ≡ 8
-unfolding money
-length-money z = length-bigEndian 8 (twos z)
 
 pub length-line : (l : Line) → length (lineBytes l) ≡ 28
 unfolding lineBytes money bigEndian

@@ -12,7 +12,6 @@ use Rattle.rules.specs.Machine.{checks, effect, firstFailure}
 use Rattle.rules.proofs.Ledger.{quiet-limits}
 use Rattle.account.specs.View.{toLimit}
 use Rattle.table.specs.View.{machineOf}
-use Rattle.table.specs.Promise.{call}
 use Rattle.table.proofs.Called.{declined}
 use Rattle.table.proofs.Places.{length-mapped}
 use Rattle.banks.specs.Parts.{bankChecks}

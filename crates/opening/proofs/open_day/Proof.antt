@@ -5,7 +5,6 @@ use native.Mathlib.Omega.{arith}
 use mathlib.Core.Path.{sym, ap, _∙_}
 use mathlib.Core.Bool.{cond}
 use Rattle.rules.specs.Command.{Opening}
-use Rattle.table.specs.Promise.{call}
 use Rattle.table.proofs.Called.{declined}
 use Rattle.opening.proofs.Days.{day-answer, opened-called}
 use Rattle.opening.proofs.open_day.Statement.{statement}

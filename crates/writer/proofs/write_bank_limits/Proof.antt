@@ -1,12 +1,12 @@
 use Rattle.frame.proofs.Digits.{length-digits}
-use Rattle.octets.proofs.Numbers.{fits-money}
+use Rattle.octets.proofs.Numbers.{fits-money, length-money}
 use Rattle.command.proofs.Forms.{limits-formed}
 use mathlib.Core.Path.{refl, sym, _∙_}
 use borrow.Author.Tests.{not-true, not-false}
 use Rattle.rules.specs.Command.{BankLimits}
 use Rattle.frame.specs.Field.{size, width, plainBytes, bytesOf, allBytes}
 use Rattle.frame.specs.Frame.{kindByte, fieldsOf, kindOf, valuesOf, frameOf}
-use Rattle.field_writer.proofs.Fields.{amount-kept, length-money, behind, lastly, total, refused, written}
+use Rattle.field_writer.proofs.Fields.{amount-kept, behind, lastly, total, refused, written}
 use borrow.Author.Needs.{needs}
 use Rattle.writer.proofs.write_bank_limits.Statement.{statement}
 use Rattle.writer.proofs.write_bank_limits.Tie as tie
