@@ -24,7 +24,7 @@ fn digit_at(b: &[u8], i: usize) -> bool
 }
 
 // Six digits from i on.
-pub fn code_at(b: &[u8], i: usize) -> bool
+pub fn is_code_at(b: &[u8], i: usize) -> bool
     requires { ⌜ i < 400 ⌝ }
     ensures { λ r. ⌜ r ≡ sixDigits (now (b .entry)) i ⌝ }
 {

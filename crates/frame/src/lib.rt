@@ -3,7 +3,7 @@ ghost use mathlib.Core.Path.{_≡_};
 ghost use Rattle.frame.specs.Frame.{isFrame};
 pub use digits::is_digit;
 use field_tests::at;
-use field_tests::code_at;
+use field_tests::is_code_at;
 use field_tests::rows_at;
 use field_tests::second_at;
 use rules::is_method;
@@ -15,17 +15,17 @@ pub fn well_formed(b: &[u8]) -> bool
     let n = b.len();
     let kind = at(b, 0);
     match kind {
-        1 => code_at(b, 1) & (n == 7),
+        1 => is_code_at(b, 1) & (n == 7),
         2 => {
-            code_at(b, 1)
-                & (code_at(b, 7) & (is_method(at(b, 13)) & (is_method(at(b, 14)) & (n == 15))))
+            is_code_at(b, 1)
+                & (is_code_at(b, 7) & (is_method(at(b, 13)) & (is_method(at(b, 14)) & (n == 15))))
         }
-        3..=4 => code_at(b, 1) & (n == 15),
-        5 => code_at(b, 1) & (n == 23),
-        6 => (at(b, 1) <= 1) & (code_at(b, 2) & (code_at(b, 8) & (n == 22))),
-        7 => code_at(b, 1) & (second_at(b, 43) & rows_at(b, 19)),
-        8 => code_at(b, 1) & (second_at(b, 43) & (n == 58)),
-        9 => code_at(b, 1) & (second_at(b, 43) & rows_at(b, 10)),
+        3..=4 => is_code_at(b, 1) & (n == 15),
+        5 => is_code_at(b, 1) & (n == 23),
+        6 => (at(b, 1) <= 1) & (is_code_at(b, 2) & (is_code_at(b, 8) & (n == 22))),
+        7 => is_code_at(b, 1) & (second_at(b, 43) & rows_at(b, 19)),
+        8 => is_code_at(b, 1) & (second_at(b, 43) & (n == 58)),
+        9 => is_code_at(b, 1) & (second_at(b, 43) & rows_at(b, 10)),
         10 => n == 5,
         _ => false,
     }

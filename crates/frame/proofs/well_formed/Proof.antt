@@ -11,14 +11,14 @@ use Rattle.frame.proofs.well_formed.Tie as tie
 at-requires : tie.Need-at-requires
 at-requires c κs = search needs
 
-code-at-requires : tie.Need-code-at-requires
-code-at-requires c κs = search needs
+is-code-at-requires : tie.Need-is-code-at-requires
+is-code-at-requires c κs = search needs
 
-code-at-requires-2 : tie.Need-code-at-requires-2
-code-at-requires-2 c κs = search needs
+is-code-at-requires-2 : tie.Need-is-code-at-requires-2
+is-code-at-requires-2 c κs = search needs
 
-code-at-requires-3 : tie.Need-code-at-requires-3
-code-at-requires-3 c κs = search needs
+is-code-at-requires-3 : tie.Need-is-code-at-requires-3
+is-code-at-requires-3 c κs = search needs
 
 at-requires-2 : tie.Need-at-requires-2
 at-requires-2 c κs = search needs
@@ -32,20 +32,20 @@ at-requires-3 c κs = search needs
 is-method-requires-2 : tie.Need-is-method-requires-2
 is-method-requires-2 c κs = search needs
 
-code-at-requires-4 : tie.Need-code-at-requires-4
-code-at-requires-4 c κs = search needs
+is-code-at-requires-4 : tie.Need-is-code-at-requires-4
+is-code-at-requires-4 c κs = search needs
 
 at-requires-4 : tie.Need-at-requires-4
 at-requires-4 c κs = search needs
 
-code-at-requires-5 : tie.Need-code-at-requires-5
-code-at-requires-5 c κs = search needs
+is-code-at-requires-5 : tie.Need-is-code-at-requires-5
+is-code-at-requires-5 c κs = search needs
 
-code-at-requires-6 : tie.Need-code-at-requires-6
-code-at-requires-6 c κs = search needs
+is-code-at-requires-6 : tie.Need-is-code-at-requires-6
+is-code-at-requires-6 c κs = search needs
 
-code-at-requires-7 : tie.Need-code-at-requires-7
-code-at-requires-7 c κs = search needs
+is-code-at-requires-7 : tie.Need-is-code-at-requires-7
+is-code-at-requires-7 c κs = search needs
 
 second-at-requires : tie.Need-second-at-requires
 second-at-requires c κs = search needs
@@ -53,14 +53,14 @@ second-at-requires c κs = search needs
 rows-at-requires : tie.Need-rows-at-requires
 rows-at-requires c κs = search needs
 
-code-at-requires-8 : tie.Need-code-at-requires-8
-code-at-requires-8 c κs = search needs
+is-code-at-requires-8 : tie.Need-is-code-at-requires-8
+is-code-at-requires-8 c κs = search needs
 
 second-at-requires-2 : tie.Need-second-at-requires-2
 second-at-requires-2 c κs = search needs
 
-code-at-requires-9 : tie.Need-code-at-requires-9
-code-at-requires-9 c κs = search needs
+is-code-at-requires-9 : tie.Need-is-code-at-requires-9
+is-code-at-requires-9 c κs = search needs
 
 second-at-requires-3 : tie.Need-second-at-requires-3
 second-at-requires-3 c κs = search needs
@@ -68,14 +68,14 @@ second-at-requires-3 c κs = search needs
 rows-at-requires-2 : tie.Need-rows-at-requires-2
 rows-at-requires-2 c κs = search needs
 
-code-at-requires-10 : tie.Need-code-at-requires-10
-code-at-requires-10 c κs = search needs
+is-code-at-requires-10 : tie.Need-is-code-at-requires-10
+is-code-at-requires-10 c κs = search needs
 
 returns : tie.Need-returns
 unfolding areFields may width size rowSize layout kinds fieldsOf
 returns c =
     let a = c .before in
-    kind _ _ 1 _ (a .match .keys1) (a .before .at .ensures) (rw (c .code-at .ensures))
+    kind _ _ 1 _ (a .match .keys1) (a .before .at .ensures) (rw (c .is-code-at .ensures))
 
 returns-2 : tie.Need-returns-2
 unfolding isMethod areFields may width size rowSize layout kinds fieldsOf
@@ -87,39 +87,39 @@ returns-2 c =
       c .before .at3 .ensures,
       c .before .before .is-method .ensures,
       c .before .before .before .at2 .ensures,
-      c .before .before .before .before .code-at3 .ensures,
-      c .before .before .before .before .before .code-at2 .ensures,
+      c .before .before .before .before .is-code-at3 .ensures,
+      c .before .before .before .before .before .is-code-at2 .ensures,
     ))
 
 returns-3 : tie.Need-returns-3
 unfolding areFields may width size rowSize layout kinds fieldsOf
 returns-3 c =
     let a = c .before in
-    kind _ _ 5 _ (a .match .keys3) (a .before .at .ensures) (rw (c .code-at4 .ensures))
+    kind _ _ 5 _ (a .match .keys3) (a .before .at .ensures) (rw (c .is-code-at4 .ensures))
 
 returns-4 : tie.Need-returns-4
 unfolding areFields may width size rowSize layout kinds fieldsOf
 returns-4 c =
     let a = c .before .before .before in
-    kind _ _ 6 _ (a .match .keys4) (a .before .at .ensures) (rw (c .code-at6 .ensures, c .before .code-at5 .ensures, c .before .before .at4 .ensures))
+    kind _ _ 6 _ (a .match .keys4) (a .before .at .ensures) (rw (c .is-code-at6 .ensures, c .before .is-code-at5 .ensures, c .before .before .at4 .ensures))
 
 returns-5 : tie.Need-returns-5
 unfolding areFields may width size rowSize layout kinds fieldsOf
 returns-5 c =
     let a = c .before .before .before in
-    kind _ _ 7 _ (a .match .keys5) (a .before .at .ensures) (rw (c .rows-at .ensures, c .before .second-at .ensures, c .before .before .code-at7 .ensures))
+    kind _ _ 7 _ (a .match .keys5) (a .before .at .ensures) (rw (c .rows-at .ensures, c .before .second-at .ensures, c .before .before .is-code-at7 .ensures))
 
 returns-6 : tie.Need-returns-6
 unfolding areFields may width size rowSize layout kinds fieldsOf
 returns-6 c =
     let a = c .before .before in
-    kind _ _ 8 _ (a .match .keys6) (a .before .at .ensures) (rw (c .second-at2 .ensures, c .before .code-at8 .ensures))
+    kind _ _ 8 _ (a .match .keys6) (a .before .at .ensures) (rw (c .second-at2 .ensures, c .before .is-code-at8 .ensures))
 
 returns-7 : tie.Need-returns-7
 unfolding areFields may width size rowSize layout kinds fieldsOf
 returns-7 c =
     let a = c .before .before .before in
-    kind _ _ 9 _ (a .match .keys7) (a .before .at .ensures) (rw (c .rows-at2 .ensures, c .before .second-at3 .ensures, c .before .before .code-at9 .ensures))
+    kind _ _ 9 _ (a .match .keys7) (a .before .at .ensures) (rw (c .rows-at2 .ensures, c .before .second-at3 .ensures, c .before .before .is-code-at9 .ensures))
 
 returns-8 : tie.Need-returns-8
 unfolding areFields may width size rowSize layout kinds fieldsOf
@@ -134,7 +134,7 @@ returns-9 c =
     (from-three _ (c .before .before .if1 .left) (r .0 .0 .0 .0 .0 .0 .0 .1) (r .0 .0 .0 .0 .0 .0 .1))
     (c .before .if2 .taken)
     (a .before .at .ensures)
-    (rw (c .code-at10 .ensures))
+    (rw (c .is-code-at10 .ensures))
 
 returns-10 : tie.Need-returns-10
 unfolding areFields may width size rowSize layout kinds fieldsOf
@@ -152,26 +152,26 @@ well-formed-spec =
     tie.close
     (tie.spec
     at-requires
-    code-at-requires
-    code-at-requires-2
-    code-at-requires-3
+    is-code-at-requires
+    is-code-at-requires-2
+    is-code-at-requires-3
     at-requires-2
     is-method-requires
     at-requires-3
     is-method-requires-2
-    code-at-requires-4
+    is-code-at-requires-4
     at-requires-4
-    code-at-requires-5
-    code-at-requires-6
-    code-at-requires-7
+    is-code-at-requires-5
+    is-code-at-requires-6
+    is-code-at-requires-7
     second-at-requires
     rows-at-requires
-    code-at-requires-8
+    is-code-at-requires-8
     second-at-requires-2
-    code-at-requires-9
+    is-code-at-requires-9
     second-at-requires-3
     rows-at-requires-2
-    code-at-requires-10
+    is-code-at-requires-10
     returns
     returns-2
     returns-3
