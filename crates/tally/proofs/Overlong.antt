@@ -1,24 +1,20 @@
 -- A line that fills the buffer holds no command, and neither does what is kept of it. Assumes nothing.
 use mathlib.Core.Path.{_≡_, sym, ap, _∙_}
-use mathlib.Core.Bool.{Bool, cond}
 use mathlib.Core.List.{List, [], _++_}
 use Prim.Native.Nat.{ℕ, _+_, _≤_}
 use native.Mathlib.Omega.{arith}
 use lib.ListN.{length, take, length-append}
 use lib.Seq.{length-take-le}
-use borrow.Author.Tests.{le-leb}
 use Rattle.rules.specs.Machine.{Machine}
 use Rattle.frame.specs.Field.{areFields, may}
-use Rattle.frame.specs.Frame.{isFrame, layout, lineFrame, given, readFrame, commandsOf}
+use Rattle.frame.specs.Frame.{isFrame, layout, given, readFrame, commandsOf}
 use Rattle.reader.proofs.Reader.{long}
 use Rattle.run.specs.Lines.{commandsIn, lineOutcome, lineNext}
 
 -- a frame has at most 352 bytes, which are 704 digits
 pub long-none : (l : List ℕ) → 1024 ≤ length l → commandsIn l ≡ []
 unfolding commandsIn commandsOf readFrame given isFrame layout areFields may
-long-none l h =
-    let e : lineFrame l ≡ [] = sym (ap (λ (b : Bool). cond b (lineFrame l) []) (le-leb 352 352 (omega arith))) ∙ long l 352 (omega arith) in
-    ap commandsOf e
+long-none l h = ap commandsOf (long l (omega arith))
 
 -- of a line that is too long for a frame the first 1,024 bytes are answered like all of it, whatever comes behind them
 pub cut-same : (k more : List ℕ) → 1024 ≤ length k → commandsIn (take 1024 k ++ more) ≡ commandsIn (k ++ more)
