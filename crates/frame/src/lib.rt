@@ -1,7 +1,6 @@
 // Whether bytes are a frame.
 ghost use mathlib.Core.Path.{_≡_};
 ghost use Rattle.frame.specs.Frame.{isFrame};
-pub use digits::is_digit;
 use field_tests::at;
 use field_tests::is_code_at;
 use field_tests::rows_at;

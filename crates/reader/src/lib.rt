@@ -8,7 +8,7 @@ ghost use Rattle.frame.specs.Hex.{isHex, allHex, nibble, unhex};
 ghost use Rattle.frame.specs.Frame.{readFrame};
 ghost use Rattle.frame.specs.Filled.{Filled};
 ghost use Rattle.reader.specs.Unpacked.{Unpacked};
-use frame::is_digit;
+use digits::is_digit;
 use frame::well_formed;
 
 // A lowercase hexadecimal digit.

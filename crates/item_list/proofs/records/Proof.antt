@@ -9,8 +9,7 @@ use mir.Val.{SFits}
 use mir.Facts.{toZ-ofZ}
 use lib.IntN.{pos}
 use lib.ListN.{length, take, getD, length-set}
-use Rattle.octets.proofs.Places.{part-length}
-use Rattle.slices.proofs.Parts.{write-all}
+use Rattle.octets.proofs.Places.{part-length, write-all}
 use Rattle.command.specs.View.{itemsFrom}
 use Rattle.command.proofs.Forms.{amount-fits}
 use Rattle.item_list.specs.Records.{toItem}
