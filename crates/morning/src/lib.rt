@@ -34,7 +34,7 @@ fn morning_value(method: u8, less: i64, v: i64) -> Limit
 }
 
 // A limit by its morning method; an adjusting one takes off `less`.
-pub fn morning(method: u8, less: i64, limit: Limit) -> Limit
+fn morning(method: u8, less: i64, limit: Limit) -> Limit
     requires { ⌜ (natAbs less ≤ 2 * 10 ^ 17) × (T (limitOk (toLimit limit))) ⌝ }
     ensures { λ r. ⌜ toLimit r ≡ Day.morning method less (toLimit limit) ⌝ }
 {
@@ -68,7 +68,7 @@ fn carried(x: Account) -> Account
     with_start(x, evening)
 }
 
-pub fn fresh_turnovers(x: Account) -> Account
+fn fresh_turnovers(x: Account) -> Account
     ensures { λ r. ⌜ toAccount r ≡ Rule.withTurnovers Rule.noTurnovers (toAccount x) ⌝ }
 {
     let none: [u64; 4] = [0; 4];

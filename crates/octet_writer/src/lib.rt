@@ -13,7 +13,7 @@ pub fn put_byte(s: &mut [u8], at: usize, x: u8)
     s[at] = x;
 }
 
-pub fn bits_of(x: i64) -> u64
+fn bits_of(x: i64) -> u64
     ensures { λ r. ⌜ r ≡ twos x ⌝ }
 {
     let s = split(x);
@@ -40,7 +40,7 @@ pub fn put_u32(s: &mut [u8], at: usize, n: u32)
     put_u16(s, at + 2, (n % 65536) as u16);
 }
 
-pub fn put_u64(s: &mut [u8], at: usize, n: u64)
+fn put_u64(s: &mut [u8], at: usize, n: u64)
     requires { ⌜ at + 8 ≤ length (now s) ⌝ }
     ensures { λ _. ⌜ now (s .exit) ≡ write (now (s .entry)) at (bigEndian 8 n) ⌝ }
 {
