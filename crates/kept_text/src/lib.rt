@@ -5,15 +5,19 @@ ghost use lib.ListN.{length};
 ghost use Rattle.octets.specs.Octets.{part, write};
 ghost use Rattle.kept_text.specs.Kept.{cutLength, lastEnd};
 
-// Moves the bytes from `from` up to `len` to the front, and gives how many they are.
-pub fn shift(buf: &mut [u8; 65536], from: usize, len: usize) -> usize
-    requires { ⌜ (from ≤ len) × (len ≤ 65536) × (length (now buf) ≡ 65536) ⌝ }
-    ensures { λ r. ⌜ (now (buf .exit) ≡ write (now (buf .entry)) 0 (part from (len - from) (now (buf .entry)))) × (r ≡ len - from) ⌝ }
+// A line that has 1,024 bytes holds no command, whatever comes: they stand for all of it.
+fn cut(n: usize) -> usize
+    ensures { λ r. ⌜ r ≡ cutLength n ⌝ }
 {
-    let n = len - from;
-    if from == 0 {
-        return n;
-    }
+    if n < 1024 { n } else { 1024 }
+}
+
+// Moves the begun line, from `from` up to `len`, to the front, cut to its first 1,024 bytes, and gives how many bytes of it are kept.
+pub fn keep(buf: &mut [u8], from: usize, len: usize) -> usize
+    requires { ⌜ (from ≤ len) × (len ≤ length (now buf)) ⌝ }
+    ensures { λ r. ⌜ (now (buf .exit) ≡ write (now (buf .entry)) 0 (part from (cutLength (len - from)) (now (buf .entry)))) × (r ≡ cutLength (len - from)) ⌝ }
+{
+    let n = cut(len - from);
     let mut i: usize = 0;
     while i < n {
         buf[i] = buf[from + i];
@@ -22,16 +26,9 @@ pub fn shift(buf: &mut [u8; 65536], from: usize, len: usize) -> usize
     n
 }
 
-// A line that fills the buffer holds no command, whatever comes: its first 1,024 bytes stand for it.
-pub fn cut(kept: usize) -> usize
-    ensures { λ r. ⌜ r ≡ cutLength kept ⌝ }
-{
-    if kept < 65536 { kept } else { 1024 }
-}
-
 // Gives the last line its end where it has a byte, and gives the length of the text.
-pub fn finish(buf: &mut [u8; 65536], kept: usize) -> usize
-    requires { ⌜ (kept < 65536) × (length (now buf) ≡ 65536) ⌝ }
+pub fn end_line(buf: &mut [u8], kept: usize) -> usize
+    requires { ⌜ kept < length (now buf) ⌝ }
     ensures { λ r. ⌜ (now (buf .exit) ≡ write (now (buf .entry)) kept (lastEnd kept)) × (r ≡ kept + length (lastEnd kept)) ⌝ }
 {
     if kept == 0 {

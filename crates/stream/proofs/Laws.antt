@@ -17,7 +17,8 @@ use Rattle.run.specs.declared.Ran.{Ran}
 use Rattle.run.specs.Lines.{played, lineOutcomes, printedAll, printedLines}
 use Rattle.run.specs.Run.{RanIs}
 use Rattle.run.proofs.Sequence.{played-append}
-use Rattle.stream.specs.Stream.{Upto}
+use Rattle.run.proofs.Program.{wrote}
+use Rattle.stream.specs.Stream.{Upto, Answers}
 
 pub begin : (text : List ℕ) (t : Table) (ids days : List ℕ) (used : ℕ) → Sound t ids days used → Upto (viewOf t ids days used) text t ids days used 0
 unfolding joined played
@@ -60,3 +61,14 @@ module _ (m : Machine) (text : List ℕ) (t : Table) (ids days : List ℕ) (used
 
   pub same : r .read ≡ 0 → Upto m text (r .table) ids′ days′ (r .used) read
   same e = let z : read + r .read ≡ read = omega arith in rw z at more
+
+  -- what the run wrote are the answers to the lines that it read
+  pub answers : Answers (take (read + r .read - read) (drop read text)) (take (r .written) out′)
+  answers =
+      let n : r .read ≡ read + r .read - read = omega arith in
+      record {
+        before = viewOf t ids days used;
+        lines = p .passed .lines;
+        whole = p .passed .text ∙ ap₂ (λ (k : ℕ) (l : List ℕ). take k l) n is;
+        is = wrote p;
+      }

@@ -9,8 +9,15 @@ use Rattle.table.specs.declared.Table.{Table}
 use Rattle.promise.specs.Promise.{Sound}
 use Rattle.promise.specs.View.{viewOf}
 use Rattle.text.specs.Text.{wholeLines, joined}
-use Rattle.run.specs.Lines.{played}
+use Rattle.run.specs.Lines.{played, printedLines}
 use Rattle.stream.specs.declared.Drained.{Drained}
+
+-- bytes that are an answer line for each line of a text, the lines played in order, on whatever machine they began
+pub record Answers (text bytes : List ℕ) : Type 0 where
+  pub before : Machine
+  pub lines : List (List ℕ)
+  pub whole : joined lines ≡ text
+  pub is : bytes ≡ printedLines before lines
 
 -- lines of a text were played from the machine m on: with their ends they are its first `read` bytes, they are its first whole lines, and the record is the
 -- machine after them

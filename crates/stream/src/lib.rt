@@ -1,8 +1,6 @@
 // The whole lines of a text played, and their answers written.
-ghost use Prim.Native.Nat.{_≤_};
-ghost use lib.ListN.{length};
 ghost use Rattle.promise.specs.Promise.{Sound};
-ghost use Rattle.stream.specs.Stream.{DrainedIs};
+ghost use Rattle.stream.specs.Stream.{Answers, DrainedIs};
 use libc::STDOUT_FILENO;
 use table::Table;
 
@@ -14,44 +12,46 @@ pub struct Drained {
     pub ok: bool,
 }
 
-// Plays every whole line of `text`, and writes their answers by way of `out`; it stops where a write fails.
+// Writes `answers`. What reaches standard output no contract can say; so it is asked that they are the answer lines to the lines of `text`.
+fn put_answers(text: &[u8], answers: &[u8]) -> bool
+    requires { ⌜ Answers (now text) (now answers) ⌝ }
+{
+    io::write_all(STDOUT_FILENO, answers)
+}
+
+// Plays every whole line of `text`, and writes their answers; it stops where a write fails.
 pub fn drain(
     t: Table,
     ids: &mut [u8; 32768],
     days: &mut [u32; 1024],
     used: usize,
     text: &[u8],
-    out: &mut [u8],
 ) -> Drained
-    requires { ⌜ (Sound t (now ids) (now days) used) × (1829 ≤ length (now out)) ⌝ }
+    requires { ⌜ Sound t (now ids) (now days) used ⌝ }
     ensures { λ r. ⌜ DrainedIs t (now (ids .entry)) (now (days .entry)) used (now (text .entry)) r (now (ids .exit)) (now (days .exit)) ⌝ }
 {
     let mut table = t;
     let mut places = used;
+    let mut out = [0u8; 65536];
     let mut read: usize = 0;
-    while read < text.len() {
-        let r = run::run(table, ids, days, places, &text[read..], out);
+    let mut ok = true;
+    while ok {
+        let r = run::run(table, ids, days, places, &text[read..], &mut out);
         table = r.table;
         places = r.used;
         let more = r.read;
         if more == 0 {
             break;
         }
-        read += more;
+        let end = read + more;
         let written = r.written;
-        if !io::write_all(STDOUT_FILENO, &out[..written]) {
-            return Drained {
-                table: table,
-                used: places,
-                read: read,
-                ok: false,
-            };
-        }
+        ok = put_answers(&text[read..end], &out[..written]);
+        read = end;
     }
     Drained {
         table: table,
         used: places,
         read: read,
-        ok: true,
+        ok: ok,
     }
 }

@@ -1,30 +1,34 @@
--- Laws of the reads: what they play, one after the other. Assumes nothing.
-use mathlib.Core.Path.{_≡_}
-use mathlib.Core.Bool.{true}
+-- Laws of the buffer that is read into. Assumes nothing.
+use mathlib.Core.Path.{_≡_, refl, sym, ap, _∙_}
+use mathlib.Core.Bool.{Bool, true, false, not}
 use mathlib.Core.List.{List, [], _∷_, _++_}
-use Prim.Native.Nat.{ℕ, zero, suc, _≤_}
+use Prim.Native.Nat.{ℕ, zero, suc, _+_, _≤_}
 use native.Mathlib.Omega.{arith}
-use lib.ListN.{length, take, drop}
-use Rattle.table.specs.declared.Table.{Table}
-use Rattle.text.proofs.Chunks.{Feeds}
-use Rattle.text.proofs.Chunks.Feeds.{more as more-read}
-use Rattle.run.specs.Program.{Reached}
-use Rattle.run.proofs.Program.{reached-on}
-use Rattle.stream.specs.declared.Drained.{Drained}
-use Rattle.stream.specs.Stream.{DrainedIs}
-
--- the record after a read is drained is reached by the lines before and those of the read
-pub drained-reached : (ls : List (List ℕ)) (t : Table) (ids days : List ℕ) (used : ℕ) (text : List ℕ) (r : Drained) (ids′ days′ : List ℕ)
-    → Reached ls t ids days used → (d : DrainedIs t ids days used text r ids′ days′) → Reached (ls ++ d .upto .lines) (r .table) ids′ days′ (r .used)
-drained-reached ls t ids days used text r ids′ days′ q d =
-    reached-on ls (d .upto .lines) t (r .table) ids days ids′ days′ used (r .used) q (d .upto .sound) (d .upto .state)
-
--- a drained text is one read fed: so, by `chunks`, the lines that all reads play are the whole lines of the input, however it is cut into reads
-pub fed : (t : Table) (ids days : List ℕ) (used : ℕ) (k c : List ℕ) (r : Drained) (ids′ days′ : List ℕ) (d : DrainedIs t ids days used (k ++ c) r ids′ days′) → r .ok ≡ true
-    → {cs ms : List (List ℕ)} {e : List ℕ} → Feeds (drop (r .read) (k ++ c)) cs ms e → Feeds k (c ∷ cs) (d .upto .lines ++ ms) e
-fed t ids days used k c r ids′ days′ d ok f = more-read (d .upto .lines) (r .read) (d .upto .taken) (d .upto .rest) (d .all ok) f
+use lib.ListN.{length, take}
+use lib.Seq.{take-append-add, length-take-le}
+use Rattle.rules.specs.Machine.{empty}
+use Rattle.promise.specs.declared.Ledger.{Ledger}
+use Rattle.promise.specs.Promise.{SoundLedger}
+use Rattle.promise.specs.View.{ledgerView}
+use Rattle.feed.specs.Reads.{Reads, start}
 
 pub at-most : (n : ℕ) (l : List ℕ) → length (take n l) ≤ n
 at-most zero l = omega arith
 at-most (suc n) [] = omega arith
 at-most (suc n) (x ∷ l) = omega (arith, at-most n l)
+
+-- before the first read nothing is kept
+pub from-fresh : (l : Ledger) (buf : List ℕ) → SoundLedger l → ledgerView l ≡ empty → Reads (l .table) (l .book .ids) (l .book .days) (l .book .used) (take 0 buf) [] []
+from-fresh l [] g e = start g e
+from-fresh l (x ∷ buf) g e = start g e
+
+-- what was read stands behind what was kept
+pub read-behind : (buf rest : List ℕ) (kept n : ℕ) → kept ≤ length buf → take (kept + n) (take kept buf ++ rest) ≡ take kept buf ++ take n rest
+read-behind buf rest kept n h =
+    let e : kept ≡ length (take kept buf) = omega (arith, length-take-le kept buf h) in
+    ap (λ k. take (k + n) (take kept buf ++ rest)) e ∙ take-append-add (take kept buf) rest n
+
+-- a test that failed
+pub not-false : (b : Bool) → not b ≡ false → b ≡ true
+not-false true e = refl
+not-false false e = sym e

@@ -1,9 +1,7 @@
 // Plays the lines of standard input, and prints an answer line for each.
-use kept_text::cut;
-use kept_text::finish;
-use kept_text::shift;
+use feed::feed;
+use feed::finish;
 use libc::STDIN_FILENO;
-use stream::drain;
 
 fn main() {
     let fresh = promise::fresh();
@@ -13,7 +11,6 @@ fn main() {
     let mut days = book.days;
     let mut used = book.used;
     let mut buf = io::large_buffer();
-    let mut out = io::large_buffer();
     let mut kept: usize = 0;
     let mut turns = u64::MAX;
     while turns > 0 {
@@ -23,18 +20,17 @@ fn main() {
         }
         let n = io::count(got, &buf[kept..]);
         if n == 0 {
-            let end = finish(&mut buf, kept);
-            drain(table, &mut ids, &mut days, used, &buf[..end], &mut out);
+            finish(table, &mut ids, &mut days, used, &mut buf, kept);
             return;
         }
         let len = kept + n;
-        let d = drain(table, &mut ids, &mut days, used, &buf[..len], &mut out);
-        if !d.ok {
+        let f = feed(table, &mut ids, &mut days, used, &mut buf, len);
+        if !f.ok {
             return;
         }
-        table = d.table;
-        used = d.used;
-        kept = cut(shift(&mut buf, d.read, len));
+        table = f.table;
+        used = f.used;
+        kept = f.kept;
         turns -= 1;
     }
 }

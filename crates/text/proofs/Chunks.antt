@@ -1,7 +1,7 @@
--- However a text is cut into reads, the lines read are the text's whole lines. Assumes nothing.
+-- Lines in front of a text, and a text read further. Assumes nothing.
 use mathlib.Core.Path.{_≡_, refl, sym, ap, _∙_}
 use mathlib.Core.Bool.{Bool, true, false, cond}
-use mathlib.Core.List.{List, [], _∷_, _++_, append-assoc, append-nil}
+use mathlib.Core.List.{List, [], _∷_, _++_, append-assoc}
 use Prim.Native.Nat.{ℕ, suc}
 use native.Mathlib.Omega.{arith}
 use lib.Dec.{eqb}
@@ -53,20 +53,3 @@ carry s more ls read j w =
     let e : s ++ more ≡ joined ls ++ (drop read s ++ more) =
     ap (λ (l : List ℕ). l ++ more) (sym (take-append-drop read s)) ∙ append-assoc (take read s) (drop read s) more ∙ ap (λ (l : List ℕ). l ++ (drop read s ++ more)) (sym j) in
     ap wholeLines e ∙ whole-joined ls (drop read s ++ more) c
-
-unfoldable pub concat : List (List ℕ) → List ℕ
-concat [] = []
-concat (c ∷ cs) = c ++ concat cs
-
--- reads one after the other, each behind what was kept: the reads, the lines read, and what is kept at the end
-pub data Feeds : List ℕ → List (List ℕ) → List (List ℕ) → List ℕ → Type 0 where
-  done : {k : List ℕ} → Feeds k [] [] k
-  more : {k c e : List ℕ} {cs ms : List (List ℕ)} (ls : List (List ℕ)) (read : ℕ) → joined ls ≡ take read (k ++ c) → wholeLines (k ++ c) ≡ ls ++ wholeLines (drop read (k ++ c))
-      → wholeLines (drop read (k ++ c)) ≡ [] → Feeds (drop read (k ++ c)) cs ms e → Feeds k (c ∷ cs) (ls ++ ms) e
-
-pub chunks : {k : List ℕ} {cs ls : List (List ℕ)} {e : List ℕ} → Feeds k cs ls e → wholeLines k ≡ [] → (ls ≡ wholeLines (k ++ concat cs)) × (wholeLines e ≡ [])
-unfolding concat
-chunks (done {k}) h = (sym (ap wholeLines (append-nil k) ∙ h), h)
-chunks (more {k} {c} {e} {cs} {ms} ls read j w n f) h =
-    let r = chunks f n in
-    (ap (λ (m : List (List ℕ)). ls ++ m) (r .0) ∙ sym (carry (k ++ c) (concat cs) ls read j w) ∙ ap wholeLines (append-assoc k c (concat cs)), r .1)

@@ -1,3 +1,6 @@
+use mathlib.Core.Path.{sym, ap}
+use mathlib.Core.Bool.{Bool, cond}
+use native.Mathlib.Omega.{arith}
 use borrow.Author.Tests.{lt-ltb, le-ltb}
 use Rattle.kept_text.specs.Kept.{cutLength}
 use Rattle.kept_text.proofs.cut.Statement.{statement}
@@ -5,11 +8,11 @@ use Rattle.kept_text.proofs.cut.Tie as tie
 
 returns : tie.Need-returns
 unfolding cutLength
-returns c = simp (lt-ltb _ _ (c .if1 .taken))
+returns c = let n = c .before .args .n in sym (ap (λ (b : Bool). cond b n 1024) (lt-ltb n 1024 (omega (arith, c .if1 .taken))))
 
 returns-2 : tie.Need-returns-2
 unfolding cutLength
-returns-2 c = simp (le-ltb _ _ (c .if1 .left))
+returns-2 c = let n = c .before .args .n in sym (ap (λ (b : Bool). cond b n 1024) (le-ltb n 1024 (omega (arith, c .if1 .left))))
 
 pub cut-spec : {M : Type 1} → statement M
 cut-spec = tie.close (tie.spec returns returns-2)

@@ -1,79 +1,110 @@
--- The invariant: the lines played so far, and the length of the buffer for answers. The measure is what is left of the text. Assumes nothing.
-use mathlib.Core.Path.{_≡_, refl, sym, _∙_}
-use mathlib.Core.Bool.{false≢true}
-use Prim.Native.Nat.{_-_}
+-- The invariant: the lines played so far, the length of the buffer for answers, and that a failed write had a line. The measure is what is left of the text.
+-- Assumes nothing.
+use mathlib.Core.Path.{_≡_, sym, _∙_}
+use mathlib.Core.Bool.{false, false≢true}
+use Prim.Native.Nat.{ℕ, _-_, _<_}
 use native.Mathlib.Omega.{arith}
-use borrow.Author.Needs.{needs}
-use lib.ListN.{length}
+use lib.ListN.{length, length-replicate}
 use lib.Seq.{length-take-le}
 use Rattle.promise.specs.View.{viewOf}
-use Rattle.text.proofs.Laws.{whole-past}
 use Rattle.stream.specs.Stream.{Upto}
-use Rattle.stream.proofs.Laws.{begin, behind, same-out, inside, more, none, same}
+use Rattle.stream.proofs.Laws.{begin, behind, same-out, inside, more, none, same, answers}
 use Rattle.stream.proofs.drain.Statement.{statement}
 use Rattle.stream.proofs.drain.Tie as tie
 
 abbrev Inv-loop : tie.InvT-loop
-Inv-loop ids₀ days₀ used text out₀ table₀ places₀ read₀ ids days out table places read =
-    (Upto (viewOf table₀ ids₀ days₀ places₀) text table ids days places read) × (length out ≡ length out₀)
+Inv-loop ids₀ days₀ used text table₀ places₀ out₀ read₀ ok₀ ids days table places out read ok =
+    (Upto (viewOf table₀ ids₀ days₀ places₀) text table ids days places read) × (length out ≡ 65536) × (ok ≡ false → 0 < read)
 
 abbrev μ-loop : tie.MeasureT-loop
-μ-loop ids₀ days₀ used text out₀ table₀ places₀ read₀ ids days out table places read = length text - read
+μ-loop ids₀ days₀ used text table₀ places₀ out₀ read₀ ok₀ ids days table places out read ok = length text - read
 
 loop-holds : tie.Need-loop-holds Inv-loop μ-loop
-loop-holds c = (begin _ _ _ _ _ (c .before .before .pre .0), refl)
+loop-holds c = (begin _ _ _ _ _ (c .before .pre), length-replicate {A = ℕ} 65536 0, λ h. absurd (false≢true (sym h)))
 
 sub-run : tie.Need-sub-run Inv-loop μ-loop
-sub-run c = omega arith
+sub-run c = omega (arith, c .before .before .before .loop .inv .0 .within)
 
 part-run-start : tie.Need-part-run-start Inv-loop μ-loop
-part-run-start c = omega arith
+part-run-start c = c .before .before .before .loop .inv .0 .within
 
 part-run-end : tie.Need-part-run-end Inv-loop μ-loop
 part-run-end c = omega arith
 
+slice-aggregate-run : tie.Need-slice-aggregate-run Inv-loop μ-loop
+slice-aggregate-run c = sym (c .before .before .before .before .before .loop .inv .1)
+
 run-requires : tie.Need-run-requires Inv-loop μ-loop
 run-requires c κs = c .before .before .before .before .before .loop .inv .0 .sound
 
-add-read : tie.Need-add-read Inv-loop μ-loop
-add-read c = omega (arith, inside _ _ _ _ _ _ _ (c .before .before .before .before .before .before .before .before .before .before .loop .inv .0) _ _ _ _ _ _ (behind (c .before .before .before .before .before .before .before .before .before .before .before .before .before .args .text .now) (c .before .before .before .before .before .before .before .before .before .before .loop .read)) (c .before .before .before .before .run .ensures), c .before .before .before .before .before .before .before .before .before .before .before .before .before .good .1 .1 .1 .1 .0 .0)
+add-end : tie.Need-add-end Inv-loop μ-loop
+add-end c =
+    let l = c .before .before .before .before .before .before .before .before .before in
+    let a = l .before .before in
+    let r = c .before .before .before .run in
+    omega (arith, inside _ _ _ _ _ _ _ (l .loop .inv .0) _ _ _ _ _ _ (behind (a .args .text .now) (l .loop .read)) (r .ensures), a .good .1 .1 .1 .1 .0 .0)
 
-slice-reshare-prefix-write-all : tie.Need-slice-reshare-prefix-write-all Inv-loop μ-loop
-slice-reshare-prefix-write-all c = omega (arith, c .before .before .before .before .run .ensures .passed .room, same-out _ _ _ _ _ _ _ (c .before .before .before .before .before .before .before .before .before .before .loop .inv .0) _ _ _ _ _ _ (behind (c .before .before .before .before .before .before .before .before .before .before .before .before .before .args .text .now) (c .before .before .before .before .before .before .before .before .before .before .loop .read)) (c .before .before .before .before .run .ensures))
+sub-put-answers : tie.Need-sub-put-answers Inv-loop μ-loop
+sub-put-answers c = omega arith
 
-slice-aggregate-write-all : tie.Need-slice-aggregate-write-all Inv-loop μ-loop
-slice-aggregate-write-all c = sym (length-take-le _ _ (omega (arith, c .before .before .before .before .before .run .ensures .passed .room, same-out _ _ _ _ _ _ _ (c .before .before .before .before .before .before .before .before .before .before .before .loop .inv .0) _ _ _ _ _ _ (behind (c .before .before .before .before .before .before .before .before .before .before .before .before .before .before .args .text .now) (c .before .before .before .before .before .before .before .before .before .before .before .loop .read)) (c .before .before .before .before .before .run .ensures))))
+part-put-answers-start : tie.Need-part-put-answers-start Inv-loop μ-loop
+part-put-answers-start c = omega arith
 
-write-all-requires : tie.Need-write-all-requires Inv-loop μ-loop
-write-all-requires c κs = search needs
+part-put-answers-end : tie.Need-part-put-answers-end Inv-loop μ-loop
+part-put-answers-end c =
+    let l = c .before .before .before .before .before .before .before .before .before in
+    let a = l .before .before in
+    let r = c .before .before .before .run in
+    inside _ _ _ _ _ _ _ (l .loop .inv .0) _ _ _ _ _ _ (behind (a .args .text .now) (l .loop .read)) (r .ensures)
 
-same-length : tie.Need-same-length Inv-loop μ-loop
-same-length c = same-out _ _ _ _ _ _ _ (c .before .before .before .before .before .before .before .before .before .before .before .before .before .loop .inv .0) _ _ _ _ _ _ (behind (c .before .before .before .before .before .before .before .before .before .before .before .before .before .before .before .before .args .text .now) (c .before .before .before .before .before .before .before .before .before .before .before .before .before .loop .read)) (c .before .before .before .before .before .before .before .run .ensures) ∙ c .before .before .before .before .before .before .before .before .before .before .before .before .before .loop .inv .1
+array-share-prefix-out : tie.Need-array-share-prefix-out Inv-loop μ-loop
+array-share-prefix-out c =
+    let l = c .before .before .before .before .before .before .before .before .before .before in
+    let a = l .before .before in
+    let r = c .before .before .before .before .run in
+    omega (arith, r .ensures .passed .room, same-out _ _ _ _ _ _ _ (l .loop .inv .0) _ _ _ _ _ _ (behind (a .args .text .now) (l .loop .read)) (r .ensures))
 
-returns : tie.Need-returns Inv-loop μ-loop
-returns c = record { upto = more _ _ _ _ _ _ _ (c .before .before .before .before .before .before .before .before .before .before .before .before .before .loop .inv .0) _ _ _ _ _ _ (behind (c .before .before .before .before .before .before .before .before .before .before .before .before .before .before .before .before .args .text .now) (c .before .before .before .before .before .before .before .before .before .before .before .before .before .loop .read)) (c .before .before .before .before .before .before .before .run .ensures); all = λ h. absurd (false≢true h); failed = λ h. omega (arith, c .before .before .before .if1 .left) }
+slice-aggregate-put-answers : tie.Need-slice-aggregate-put-answers Inv-loop μ-loop
+slice-aggregate-put-answers c =
+    let l = c .before .before .before .before .before .before .before .before .before .before .before in
+    let a = l .before .before in
+    let r = c .before .before .before .before .before .run in
+    sym (length-take-le _ _ (omega (arith, r .ensures .passed .room, same-out _ _ _ _ _ _ _ (l .loop .inv .0) _ _ _ _ _ _ (behind (a .args .text .now) (l .loop .read)) (r .ensures))))
+
+put-answers-requires : tie.Need-put-answers-requires Inv-loop μ-loop
+put-answers-requires c κs =
+    let l = c .before .before .before .before .before .before .before .before .before .before .before in
+    let a = l .before .before in
+    let r = c .before .before .before .before .before .run in
+    answers _ _ _ _ _ _ _ (l .loop .inv .0) _ _ _ _ _ _ (behind (a .args .text .now) (l .loop .read)) (r .ensures)
 
 loop-less : tie.Need-loop-less Inv-loop μ-loop
-loop-less c = omega (arith, inside _ _ _ _ _ _ _ (c .before .before .before .before .before .before .before .before .before .before .before .before .before .loop .inv .0) _ _ _ _ _ _ (behind (c .before .before .before .before .before .before .before .before .before .before .before .before .before .before .before .before .args .text .now) (c .before .before .before .before .before .before .before .before .before .before .before .before .before .loop .read)) (c .before .before .before .before .before .before .before .run .ensures), c .before .before .before .if1 .left)
+loop-less c =
+    let l = c .before .before .before .before .before .before .before .before .before .before .before .before in
+    let a = l .before .before in
+    let r = c .before .before .before .before .before .before .run in
+    omega (arith, inside _ _ _ _ _ _ _ (l .loop .inv .0) _ _ _ _ _ _ (behind (a .args .text .now) (l .loop .read)) (r .ensures), c .before .before .before .if1 .left)
 
 loop-again : tie.Need-loop-again Inv-loop μ-loop
-loop-again c = (more _ _ _ _ _ _ _ (c .before .before .before .before .before .before .before .before .before .before .before .before .before .loop .inv .0) _ _ _ _ _ _ (behind (c .before .before .before .before .before .before .before .before .before .before .before .before .before .before .before .before .args .text .now) (c .before .before .before .before .before .before .before .before .before .before .before .before .before .loop .read)) (c .before .before .before .before .before .before .before .run .ensures), same-out _ _ _ _ _ _ _ (c .before .before .before .before .before .before .before .before .before .before .before .before .before .loop .inv .0) _ _ _ _ _ _ (behind (c .before .before .before .before .before .before .before .before .before .before .before .before .before .before .before .before .args .text .now) (c .before .before .before .before .before .before .before .before .before .before .before .before .before .loop .read)) (c .before .before .before .before .before .before .before .run .ensures) ∙ c .before .before .before .before .before .before .before .before .before .before .before .before .before .loop .inv .1)
+loop-again c =
+    let l = c .before .before .before .before .before .before .before .before .before .before .before .before in
+    let a = l .before .before in
+    let r = c .before .before .before .before .before .before .run in
+    (more _ _ _ _ _ _ _ (l .loop .inv .0) _ _ _ _ _ _ (behind (a .args .text .now) (l .loop .read)) (r .ensures), same-out _ _ _ _ _ _ _ (l .loop .inv .0) _ _ _ _ _ _ (behind (a .args .text .now) (l .loop .read)) (r .ensures) ∙ l .loop .inv .1, λ h. omega (arith, c .before .before .before .if1 .left))
 
-same-length-2 : tie.Need-same-length-2 Inv-loop μ-loop
-same-length-2 c = c .before .loop .inv .1
+returns : tie.Need-returns Inv-loop μ-loop
+returns c = let l = c .before .loop in record { upto = l .inv .0; all = λ h. absurd (false≢true (sym (c .loop-test .left) ∙ h)); failed = l .inv .2 }
 
 returns-2 : tie.Need-returns-2 Inv-loop μ-loop
-returns-2 c = record { upto = c .before .loop .inv .0; all = λ h. whole-past _ _ (c .loop-test .left); failed = λ h. absurd (false≢true (sym h)) }
-
-same-length-3 : tie.Need-same-length-3 Inv-loop μ-loop
-same-length-3 c = same-out _ _ _ _ _ _ _ (c .before .before .before .before .before .before .before .before .before .before .loop .inv .0) _ _ _ _ _ _ (behind (c .before .before .before .before .before .before .before .before .before .before .before .before .before .args .text .now) (c .before .before .before .before .before .before .before .before .before .before .loop .read)) (c .before .before .before .before .run .ensures) ∙ c .before .before .before .before .before .before .before .before .before .before .loop .inv .1
-
-returns-3 : tie.Need-returns-3 Inv-loop μ-loop
-returns-3 c = record {
-  upto = same _ _ _ _ _ _ _ (c .before .before .before .before .before .before .before .before .before .before .loop .inv .0) _ _ _ _ _ _ (behind (c .before .before .before .before .before .before .before .before .before .before .before .before .before .args .text .now) (c .before .before .before .before .before .before .before .before .before .before .loop .read)) (c .before .before .before .before .run .ensures) (c .if1 .taken);
-  all = λ h. none _ _ _ _ _ _ _ (c .before .before .before .before .before .before .before .before .before .before .loop .inv .0) _ _ _ _ _ _ (behind (c .before .before .before .before .before .before .before .before .before .before .before .before .before .args .text .now) (c .before .before .before .before .before .before .before .before .before .before .loop .read)) (c .before .before .before .before .run .ensures) (c .if1 .taken) (omega (arith, c .before .before .before .before .before .before .before .before .before .before .loop .inv .1, c .before .before .before .before .before .before .before .before .before .before .before .before .before .pre .1));
-  failed = λ h. absurd (false≢true (sym h));
-}
+returns-2 c =
+    let l = c .before .before .before .before .before .before .before .before .before in
+    let a = l .before .before in
+    let r = c .before .before .before .run in
+    record {
+      upto = same _ _ _ _ _ _ _ (l .loop .inv .0) _ _ _ _ _ _ (behind (a .args .text .now) (l .loop .read)) (r .ensures) (c .if1 .taken);
+      all = λ h. none _ _ _ _ _ _ _ (l .loop .inv .0) _ _ _ _ _ _ (behind (a .args .text .now) (l .loop .read)) (r .ensures) (c .if1 .taken) (omega (arith, l .loop .inv .1));
+      failed = λ h. absurd (false≢true (sym h ∙ c .before .before .before .before .before .before .before .before .loop-test .taken));
+    }
 
 pub drain-spec : {M : Type 1} → statement M
 drain-spec =
@@ -85,16 +116,16 @@ drain-spec =
     sub-run
     part-run-start
     part-run-end
+    slice-aggregate-run
     run-requires
-    add-read
-    slice-reshare-prefix-write-all
-    slice-aggregate-write-all
-    write-all-requires
-    same-length
-    returns
+    add-end
+    sub-put-answers
+    part-put-answers-start
+    part-put-answers-end
+    array-share-prefix-out
+    slice-aggregate-put-answers
+    put-answers-requires
     loop-less
     loop-again
-    same-length-2
-    returns-2
-    same-length-3
-    returns-3)
+    returns
+    returns-2)

@@ -1,15 +1,14 @@
--- A line that fills the buffer holds no command, and neither does what is kept of it. Assumes nothing.
+-- A line of 1,024 bytes or more holds no command, and neither does what is kept of it. Assumes nothing.
 use mathlib.Core.Path.{_≡_, sym, ap, _∙_}
 use mathlib.Core.List.{List, [], _++_}
 use Prim.Native.Nat.{ℕ, _+_, _≤_}
 use native.Mathlib.Omega.{arith}
 use lib.ListN.{length, take, length-append}
 use lib.Seq.{length-take-le}
-use Rattle.rules.specs.Machine.{Machine}
 use Rattle.frame.specs.Field.{areFields, may}
-use Rattle.frame.specs.Frame.{isFrame, layout, given, readFrame, commandsOf}
+use Rattle.frame.specs.Frame.{isFrame, layout, commandsOf}
 use Rattle.reader.proofs.Reader.{long}
-use Rattle.run.specs.Lines.{commandsIn, lineOutcome, lineNext}
+use Rattle.run.specs.Lines.{commandsIn}
 
 -- a frame has at most 352 bytes, which are 704 digits
 pub long-none : (l : List ℕ) → 1024 ≤ length l → commandsIn l ≡ []
@@ -21,11 +20,3 @@ pub cut-same : (k more : List ℕ) → 1024 ≤ length k → commandsIn (take 10
 cut-same k more h =
     let short : length (take 1024 k ++ more) ≡ 1024 + length more = length-append (take 1024 k) more ∙ ap (λ n. n + length more) (length-take-le 1024 k h) in
     long-none (take 1024 k ++ more) (omega arith) ∙ sym (long-none (k ++ more) (omega (arith, length-append k more)))
-
-pub cut-outcome : (m : Machine) (k more : List ℕ) → 1024 ≤ length k → lineOutcome m (take 1024 k ++ more) ≡ lineOutcome m (k ++ more)
-unfolding lineOutcome
-cut-outcome m k more h = rw (cut-same k more h)
-
-pub cut-next : (m : Machine) (k more : List ℕ) → 1024 ≤ length k → lineNext m (take 1024 k ++ more) ≡ lineNext m (k ++ more)
-unfolding lineNext
-cut-next m k more h = rw (cut-same k more h)

@@ -2,10 +2,11 @@ use mathlib.Core.Path.{_≡_, refl}
 use mathlib.Core.List.{[], _∷_}
 use Prim.Native.Nat.{ℕ, zero, suc}
 use native.Mathlib.Omega.{arith}
+use lib.ListN.{length-set}
 use Rattle.octets.specs.Octets.{write}
 use Rattle.kept_text.specs.Kept.{lastEnd}
-use Rattle.kept_text.proofs.finish.Statement.{statement}
-use Rattle.kept_text.proofs.finish.Tie as tie
+use Rattle.kept_text.proofs.end_line.Statement.{statement}
+use Rattle.kept_text.proofs.end_line.Tie as tie
 
 last-end : (kept : ℕ) → ¬ (kept ≡ 0) → lastEnd kept ≡ 10 ∷ []
 unfolding lastEnd
@@ -16,15 +17,18 @@ returns : tie.Need-returns
 unfolding lastEnd write
 returns c = rw (c .if1 .taken) (refl, refl)
 
-element-write-buf : tie.Need-element-write-buf
-element-write-buf c = omega arith
+slice-write-buf : tie.Need-slice-write-buf
+slice-write-buf c = omega arith
 
 add-result : tie.Need-add-result
 add-result c = omega arith
+
+same-length : tie.Need-same-length
+same-length c = simp length-set refl
 
 returns-2 : tie.Need-returns-2
 unfolding write
 returns-2 c = rw (last-end _ (c .if1 .left)) (refl, refl)
 
-pub finish-spec : {M : Type 1} → statement M
-finish-spec = tie.close (tie.spec returns element-write-buf add-result returns-2)
+pub end-line-spec : {M : Type 1} → statement M
+end-line-spec = tie.close (tie.spec returns slice-write-buf add-result same-length returns-2)
