@@ -12,7 +12,7 @@ use Rattle.run.specs.Lines.{commandsIn}
 
 -- a frame has at most 352 bytes, which are 704 digits
 pub long-none : (l : List ℕ) → 1024 ≤ length l → commandsIn l ≡ []
-unfolding commandsIn commandsOf readFrame given isFrame layout areFields may
+unfolding commandsIn commandsOf isFrame layout areFields may
 long-none l h = ap commandsOf (long l (omega arith))
 
 -- of a line that is too long for a frame the first 1,024 bytes are answered like all of it, whatever comes behind them
