@@ -57,37 +57,45 @@ book-is k n c xs =
     (at-keeps (bankOf c xs) (raised k n) (tame-raised k n .code-kept) (λ x. x .owner) (tame-raised k n .owner-kept) c xs)
     ∙ book-for ((at c xs) .owner) k n c xs
 
+room-of : (k : Turnover) (x : Rule.Turnovers) (n : ℕ) → ((m : ℕ) → turnover (turnoverOf m) x + n < 2 ^ 64) → turnover k x + n < 2 ^ 64
+unfolding turnoverOf
+room-of ICDT x n h = h 0
+room-of RCDT x n h = h 1
+room-of IDDT x n h = h 2
+room-of RDDT x n h = h 3
+
 -- ---- the table's: of the party at i with its bank at k, in accounts xs whose owners are still the table's
 
 module _ (t : Table) (g : Good t) {arr : List Account} {b : ℕ} {xs : List Rule.Account} (s : Stored t arr b xs) (low : b ≤ 3 * 10 ^ 17)
-    {c i k : ℕ} (p : Party t c i k) (owner : (at c xs) .owner ≡ (at c (accountsOf t)) .owner) (kind : ℕ) (d : Account) where
+    {c i k : ℕ} (p : Party t c i k) (owner : (at c xs) .owner ≡ (at c (accountsOf t)) .owner) (kind : Turnover) (d : Account) where
   same-bank : bankOf c (accountsOf t) ≡ bankOf c xs
   unfolding bankOf
   same-bank = ap (λ o. bankOr o c) (sym owner)
 
-  pub bank-room : (n : ℕ) → n ≤ 10 ^ 15 → turnover (turnoverOf kind) ((toAccount (getD arr k d)) .turnovers) + n < 2 ^ 64
-  bank-room n few = stored-room t g s (bankOf c (accountsOf t)) k d (p .bank-place) (p .bank-below) kind n (omega arith) few
+  pub bank-room : (n : ℕ) → n ≤ 10 ^ 15 → turnover kind ((toAccount (getD arr k d)) .turnovers) + n < 2 ^ 64
+  bank-room n few = room-of kind _ n (λ m. stored-room t g s (bankOf c (accountsOf t)) k d (p .bank-place) (p .bank-below) m n (omega arith) few)
 
-  module _ (n : ℕ) (few : n ≤ 10 ^ 15) (y : Account) (e : toAccount y ≡ raised (turnoverOf kind) n (toAccount (getD arr k d))) where
-    bank-stored : Stored t (set arr k y) (b + 10 ^ 15) (adjust (bankOf c xs) (raised (turnoverOf kind) n) xs)
-    bank-stored = rw (← same-bank) (stored-one t g s (bankOf c (accountsOf t)) k d (p .bank-place) (p .bank-below) (turnoverOf kind) n y few e)
+  module _ (n : ℕ) (few : n ≤ 10 ^ 15) (y : Account) (e : toAccount y ≡ raised kind n (toAccount (getD arr k d))) where
+    bank-stored : Stored t (set arr k y) (b + 10 ^ 15) (adjust (bankOf c xs) (raised kind n) xs)
+    bank-stored = rw (← same-bank) (stored-one t g s (bankOf c (accountsOf t)) k d (p .bank-place) (p .bank-below) kind n y few e)
 
-    pub own-room : turnover (turnoverOf kind) ((toAccount (getD (set arr k y) i d)) .turnovers) + n < 2 ^ 64
-    own-room = stored-room t g bank-stored c i d (p .place) (p .below) kind n (omega arith) few
+    pub own-room : turnover kind ((toAccount (getD (set arr k y) i d)) .turnovers) + n < 2 ^ 64
+    own-room = room-of kind _ n (λ m. stored-room t g bank-stored c i d (p .place) (p .below) m n (omega arith) few)
 
-    pub own-stored : (z : Account) → toAccount z ≡ raised (turnoverOf kind) (share (toAccount (getD (set arr k y) i d)) n) (toAccount (getD (set arr k y) i d))
-        → Stored t (set (set arr k y) i z) ((b + 10 ^ 15) + 10 ^ 15) (book (turnoverOf kind) n c xs)
+    pub own-stored : (z : Account) → toAccount z ≡ raised kind (share (toAccount (getD (set arr k y) i d)) n) (toAccount (getD (set arr k y) i d))
+        → Stored t (set (set arr k y) i z) ((b + 10 ^ 15) + 10 ^ 15) (book kind n c xs)
     own-stored z f =
-        subst (Stored t (set (set arr k y) i z) ((b + 10 ^ 15) + 10 ^ 15)) (book-is (turnoverOf kind) n c xs)
-        (subst (λ x. Stored t (set (set arr k y) i z) ((b + 10 ^ 15) + 10 ^ 15) (adjust c (raised (turnoverOf kind) (share x n)) (adjust (bankOf c xs) (raised (turnoverOf kind) n) xs))) (stored-at t g bank-stored c i d (p .place) (p .below))
-        (stored-one t g bank-stored c i d (p .place) (p .below) (turnoverOf kind) (share (toAccount (getD (set arr k y) i d)) n) z (omega (arith, share-most (toAccount (getD (set arr k y) i d)) n)) f))
+        subst (Stored t (set (set arr k y) i z) ((b + 10 ^ 15) + 10 ^ 15)) (book-is kind n c xs)
+        (subst (λ x. Stored t (set (set arr k y) i z) ((b + 10 ^ 15) + 10 ^ 15) (adjust c (raised kind (share x n)) (adjust (bankOf c xs) (raised kind n) xs))) (stored-at t g bank-stored c i d (p .place) (p .below))
+        (stored-one t g bank-stored c i d (p .place) (p .below) kind (share (toAccount (getD (set arr k y) i d)) n) z (omega (arith, share-most (toAccount (getD (set arr k y) i d)) n)) f))
 
 -- ---- both sides
 
 pub owner-booked : (k : Turnover) (n c e : ℕ) (xs : List Rule.Account) → (at e (book k n c xs)) .owner ≡ (at e xs) .owner
 owner-booked k n c e xs = keeps-book k n c (λ (x : Rule.Account). x .owner) (tame-raised k n .owner-kept) e xs
 
-pub paid : (m : Machine) (w s r : ℕ) (a : ℤ) (n : ℕ) (ko ki : Turnover) → n ≡ natAbs a → ko ≡ outTurnover (isCredit w) → ki ≡ inTurnover (isCredit w)
-    → withAccounts (book ki n (payee (isCredit w) s r) (book ko n (payer (isCredit w) s r) (m .accounts))) m ≡ effect m (Payment w s r a)
+pub paid : (m : Machine) (w s r : ℕ) (a : ℤ)
+    → withAccounts (book (inTurnover (isCredit w)) (natAbs a) (payee (isCredit w) s r) (book (outTurnover (isCredit w)) (natAbs a) (payer (isCredit w) s r) (m .accounts))) m
+    ≡ effect m (Payment w s r a)
 unfolding effect pay
-paid m w s r a n ko ki en eo ei = rw (en, eo, ei)
+paid m w s r a = refl

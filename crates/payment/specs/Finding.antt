@@ -1,0 +1,24 @@
+-- Where the parties of a payment stand among codes. Assumes nothing.
+use mathlib.Core.Path.{_≡_}
+use mathlib.Core.Bool.{_&&_}
+use mathlib.Core.List.{List}
+use Prim.Native.Nat.{ℕ}
+use lib.Dec.{ltb}
+use Rattle.rules.specs.Payment.{isCredit, payer, payee}
+use Rattle.table.specs.Promise.{Slot}
+use Rattle.table.specs.View.{placeOf}
+use Rattle.payment.specs.declared.Transfer.{Transfer}
+use Rattle.payment.specs.declared.Found.{Found}
+
+-- the place of the payer among the codes, and of the payee: the length of the codes where there is none
+abbrev pub payerPlace : List ℕ → Transfer → ℕ
+payerPlace codes p = placeOf (payer (isCredit (p .way)) (p .sender) (p .receiver)) codes
+
+abbrev pub payeePlace : List ℕ → Transfer → ℕ
+payeePlace codes p = placeOf (payee (isCredit (p .way)) (p .sender) (p .receiver)) codes
+
+-- whether both stand among the n codes, and where, as places of the array
+pub record FoundIs (n : ℕ) (codes : List ℕ) (p : Transfer) (f : Found) : Type 0 where
+  pub known-is : f .known ≡ (ltb (payerPlace codes p) n && ltb (payeePlace codes p) n)
+  pub payer-slot : Slot (payerPlace codes p) (f .payer)
+  pub payee-slot : Slot (payeePlace codes p) (f .payee)
