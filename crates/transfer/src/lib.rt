@@ -1,0 +1,23 @@
+// A payment's frame, taken apart without the arrays that other kinds need.
+ghost use mathlib.Core.Path.{_≡_};
+ghost use mathlib.Core.Bool.{true};
+ghost use mathlib.Core.List.{[], _∷_};
+ghost use lib.ListN.{length};
+ghost use Rattle.rules.specs.Command as Rule;
+ghost use Rattle.frame.specs.Frame.{isFrame, commandsOf};
+use octets::i64_at;
+use payment::Transfer;
+use slices::code_at;
+
+// The payment that a frame of 22 bytes holds: no other kind's has so many.
+pub fn transfer_at(b: &[u8]) -> Transfer
+    requires { ⌜ (isFrame (now b) ≡ true) × (length (now b) ≡ 22) ⌝ }
+    ensures { λ r. ⌜ commandsOf (now (b .entry)) ≡ Rule.Payment (r .way) (r .sender) (r .receiver) (r .amount) ∷ [] ⌝ }
+{
+    Transfer {
+        way: b[1],
+        sender: code_at(b, 2),
+        receiver: code_at(b, 8),
+        amount: i64_at(b, 14),
+    }
+}
