@@ -1,9 +1,18 @@
-// A chunk of lines, played: the book is lent, so that only the table is copied.
+// A chunk of lines, played: the book is lent, and payments are booked in place, so that the table is copied for other commands alone.
 ghost use Prim.Native.Nat.{_≤_};
 ghost use lib.ListN.{length};
 ghost use Rattle.promise.specs.Promise.{Sound};
 ghost use Rattle.run.specs.Run.{NextIs, RanIs};
+use payment::bank_in;
+use payment::bank_out;
+use payment::bank_slot;
+use payment::decide;
+use payment::find_parties;
+use payment::own_in;
+use payment::own_out;
+use reader::read_frame;
 use table::Table;
+use transfer::transfer_at;
 
 // The record afterwards beside the lent book, how many bytes of the text were played, and how many were written.
 pub struct Ran {
@@ -24,35 +33,58 @@ fn next_end(lines: &[u8], from: usize, room: usize) -> usize
     text::line_end(lines, from)
 }
 
-// Plays the whole lines of `lines` in order, as long as `out` has room for the longest answer line.
+// Plays the whole lines of `lines` in order, as long as `out` has room for the longest answer line. A frame of 22 bytes is a payment's: it is booked here, on
+// the table that the loop owns, as `pay` books it, so that no table is copied.
 pub fn run(
-    t: Table,
+    mut t: Table,
     ids: &mut [u8; 32768],
     days: &mut [u32; 1024],
-    used: usize,
+    mut used: usize,
     lines: &[u8],
     out: &mut [u8],
 ) -> Ran
     requires { ⌜ Sound t (now ids) (now days) used ⌝ }
     ensures { λ r. ⌜ RanIs t (now (ids .entry)) (now (days .entry)) used (now (lines .entry)) (now (out .entry)) r (now (ids .exit)) (now (days .exit)) (now (out .exit)) ⌝ }
 {
-    let mut table = t;
-    let mut places = used;
+    let mut frame = [0u8; 352];
     let mut report = [0u8; 913];
     let mut read: usize = 0;
     let mut written: usize = 0;
     let mut end = next_end(lines, read, out.len());
     while end < lines.len() {
-        let s = step::step_line(table, ids, days, places, &lines[read..end], &mut report);
-        table = s.table;
-        places = s.used;
-        written = text::write_line(out, written, s.answer, &report, s.report_len);
+        let n = read_frame(&lines[read..end], &mut frame);
+        let mut answer: u64 = 0;
+        let mut length: usize = 0;
+        if n == 22 {
+            let p = transfer_at(&frame[..n]);
+            let found = find_parties(&t.codes, t.count, p);
+            let i = found.payer;
+            let j = found.payee;
+            let x = t.accounts[i];
+            let y = t.accounts[j];
+            let k = bank_slot(&t.codes, t.count, i, x);
+            let l = bank_slot(&t.codes, t.count, j, y);
+            answer = decide(p, found.known, x, t.accounts[k], y, t.accounts[l]);
+            if answer == 0 {
+                t.accounts[k] = bank_out(t.accounts[k], p);
+                t.accounts[i] = own_out(t.accounts[i], p);
+                t.accounts[l] = bank_in(t.accounts[l], p);
+                t.accounts[j] = own_in(t.accounts[j], p);
+            }
+        } else {
+            let s = step::step(t, ids, days, used, &frame[..n], &mut report);
+            t = s.table;
+            used = s.used;
+            answer = s.answer;
+            length = s.report_len;
+        }
+        written = text::write_line(out, written, answer, &report, length);
         read = end + 1;
         end = next_end(lines, read, out.len() - written);
     }
     Ran {
-        table: table,
-        used: places,
+        table: t,
+        used: used,
         read: read,
         written: written,
     }

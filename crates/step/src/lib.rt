@@ -1,6 +1,6 @@
-// One frame, or one line, played on table, book and report buffer.
+// One frame, played on table, book and report buffer.
 ghost use mathlib.Core.Path.{_≡_};
-ghost use Rattle.frame.specs.Frame.{commandsOf, lineFrame};
+ghost use Rattle.frame.specs.Frame.{commandsOf};
 ghost use Rattle.promise.specs.Promise.{Sound, Played};
 use bank_limits::bank_limits;
 use command::Command;
@@ -17,7 +17,6 @@ use promise::Noted;
 use promise::Stepped;
 use query::Asked;
 use query::query;
-use reader::read_frame;
 use table::Outcome;
 use table::Table;
 
@@ -106,21 +105,4 @@ pub fn step(
         Command::Query(h, n) => on_report(query(t, ids, days, used, h, id, accounts, n, report), t),
         Command::Opening(d) => on_book(open(t, ids, days, used, d)),
     }
-}
-
-// The same of the frame that a line is.
-pub fn step_line(
-    t: Table,
-    ids: &mut [u8; 32768],
-    days: &mut [u32; 1024],
-    used: usize,
-    line: &[u8],
-    report: &mut [u8],
-) -> Stepped
-    requires { ⌜ Sound t (now ids) (now days) used ⌝ }
-    ensures { λ r. ⌜ Played (commandsOf (lineFrame (now (line .entry)))) t (now (ids .entry)) (now (days .entry)) used (now (report .entry)) r (now (ids .exit)) (now (days .exit)) (now (report .exit)) ⌝ }
-{
-    let mut frame = [0u8; 352];
-    let n = read_frame(line, &mut frame);
-    step(t, ids, days, used, &frame[..n], report)
 }

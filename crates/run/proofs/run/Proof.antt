@@ -1,26 +1,140 @@
--- The invariant: the lines played so far, the end of the next one, the lengths of the lent buffers. The measure is what is left of the text. Assumes nothing.
+-- The invariant: the lines played so far, the end of the next one, the lengths of the buffers and of the table's arrays. The measure is what is left of the
+-- text. Assumes nothing.
 use mathlib.Core.Path.{_≡_, refl, sym, _∙_}
 use mathlib.Core.Logic.{⊎-elim, inl, inr}
-use Prim.Native.Nat.{_≤_, _+_, _-_}
+use mathlib.Core.List.{List}
+use Prim.Native.Nat.{ℕ, _≤_, _+_, _-_}
 use native.Mathlib.Omega.{arith}
 use borrow.Author.Needs.{needs}
-use lib.ListN.{length}
+use lib.ListN.{length, take, drop, length-set}
+use Rattle.frame.specs.Frame.{lineFrame}
+use Rattle.table.specs.declared.Table.{Table}
+use Rattle.table.specs.Promise.{Good}
+use Rattle.table.proofs.Places.{length-mapped}
+use Rattle.payment.specs.declared.Transfer.{Transfer}
+use Rattle.payment.specs.declared.Found.{Found}
+use Rattle.payment.proofs.Parties.{Sought, all-sized}
+use Rattle.payment.proofs.Calls.{Accepted, refused, taken, out-room, own-out-room, in-room, own-in-room, booked}
 use Rattle.promise.specs.View.{viewOf}
+use Rattle.promise.specs.Promise.{Sound}
+use Rattle.promise.proofs.Laws.{good-table}
 use Rattle.run.specs.Run.{NextIs, Passed}
 use Rattle.run.proofs.Laws.{small, same-report, begin, turn, forward, fits, all-chosen}
+use Rattle.run.proofs.Turns.{frame-within, frame-long, frame-is, frame-formed, Long, Turned, turned, paid}
 use Rattle.run.proofs.run.Statement.{statement}
 use Rattle.run.proofs.run.Tie as tie
 
 abbrev Inv-loop : tie.InvT-loop
-Inv-loop ids₀ days₀ used lines out₀ table₀ places₀ report₀ read₀ written₀ end₀ ids days out table places report read written end =
-    (Passed (viewOf table₀ ids₀ days₀ places₀) lines out₀ table ids days places read written out)
+Inv-loop ids₀ days₀ used₀ lines out₀ t₀ frame₀ report₀ read₀ written₀ end₀ ids days used out t frame report read written end =
+    (Passed (viewOf t₀ ids₀ days₀ used₀) lines out₀ t ids days used read written out)
     × (NextIs lines read (length out₀ - written) end)
     × (length out ≡ length out₀)
     × (length report ≡ 913)
+    × (length frame ≡ 352)
+    × (Long t)
 
 abbrev μ-loop : tie.MeasureT-loop
-μ-loop ids₀ days₀ used lines out₀ table₀ places₀ report₀ read₀ written₀ end₀ ids days out table places report read written end =
+μ-loop ids₀ days₀ used₀ lines out₀ t₀ frame₀ report₀ read₀ written₀ end₀ ids days used out t frame report read written end =
     length lines - read
+
+-- ---- in a turn: the line's end is at or behind its start, and there is room
+
+ahead : (c : tie.In-loop Inv-loop μ-loop) → c .before .loop .read ≤ c .before .loop .end
+ahead c = forward _ _ _ _ _ _ _ _ _ _ _ (c .before .loop .inv .0) (c .before .loop .inv .1) (c .loop-test .taken)
+
+roomy : (c : tie.In-loop Inv-loop μ-loop) → c .before .loop .written + 1829 ≤ length (c .before .loop .out)
+roomy c = omega (arith, fits _ _ _ _ _ _ _ _ _ _ _ (c .before .loop .inv .0) (c .before .loop .inv .1) (c .loop-test .taken), c .before .loop .inv .2)
+
+-- ---- the line's frame
+
+abbrev at : tie.After-frame2 Inv-loop μ-loop → tie.In-loop Inv-loop μ-loop
+at f = f .before .before .before .before
+
+abbrev line : tie.After-frame2 Inv-loop μ-loop → List ℕ
+line f = let v = at f .before .loop in take (v .end - v .read) (drop (v .read) (at f .before .before .before .before .before .args .lines .now))
+
+within : (f : tie.After-frame2 Inv-loop μ-loop) → f .before .read-frame .result ≤ length (f .before .read-frame .last .1 .0)
+within f = frame-within (line f) _ _ _ (at f .before .loop .inv .4) (f .before .read-frame .ensures)
+
+is : (f : tie.After-frame2 Inv-loop μ-loop) → take (f .before .read-frame .result) (f .before .read-frame .last .1 .0) ≡ lineFrame (line f)
+is f = frame-is (line f) _ _ _ (at f .before .loop .inv .4) (f .before .read-frame .ensures)
+
+-- ---- the table before the turn
+
+abbrev table : tie.After-frame2 Inv-loop μ-loop → Table
+table f = at f .before .loop .t
+
+sound : (f : tie.After-frame2 Inv-loop μ-loop) → let v = at f .before .loop in Sound (v .t) (v .ids) (v .days) (v .used)
+sound f = at f .before .loop .inv .0 .sound
+
+good : (f : tie.After-frame2 Inv-loop μ-loop) → Good (table f)
+good f = let v = at f .before .loop in good-table (v .t) (v .ids) (v .days) (v .used) (sound f)
+
+long : (f : tie.After-frame2 Inv-loop μ-loop) → length (table f .accounts) ≡ 64
+long f = at f .before .loop .inv .5 .accounts-long
+
+-- ---- a payment: its parties' places, and the four stores where it is accepted
+
+abbrev front : tie.After-bank-slot2 Inv-loop μ-loop → tie.After-frame2 Inv-loop μ-loop
+front c = c .before .before .before .before .before .before .before .before .before .before .before .before .before .before
+
+abbrev order : tie.After-bank-slot2 Inv-loop μ-loop → Transfer
+order c = c .before .before .before .before .before .before .before .before .before .before .before .transfer-at .result
+
+abbrev found : tie.After-bank-slot2 Inv-loop μ-loop → Found
+found c = c .before .before .before .before .before .before .before .before .find-parties .result
+
+abbrev k : tie.After-bank-slot2 Inv-loop μ-loop → ℕ
+k c = c .before .before .before .bank-slot .result
+
+sought : (c : tie.After-bank-slot2 Inv-loop μ-loop) → Sought (table (front c)) (order c) (found c) (k c) (c .bank-slot2 .result)
+sought c = record { found = c .before .before .before .before .before .before .before .before .find-parties .ensures; payer-bank = c .before .before .before .bank-slot .ensures; payee-bank = c .bank-slot2 .ensures }
+
+abbrev sides : tie.Then2 Inv-loop μ-loop → tie.After-bank-slot2 Inv-loop μ-loop
+sides c = c .before .before .before .before
+
+accepted : (c : tie.Then2 Inv-loop μ-loop) → let b = sides c in Accepted (table (front b)) (order b) (found b) (k b) (b .bank-slot2 .result)
+accepted c = let b = sides c in
+    taken (table (front b)) (good (front b)) (long (front b)) (sought b) (c .before .decide .result) (c .before .decide .ensures) (c .if2 .taken)
+
+abbrev last : tie.After-bank-out Inv-loop μ-loop → tie.Then2 Inv-loop μ-loop
+last c = c .before .before
+
+abbrev last2 : tie.After-own-out Inv-loop μ-loop → tie.After-bank-out Inv-loop μ-loop
+last2 c = c .before .before
+
+abbrev last3 : tie.After-bank-in Inv-loop μ-loop → tie.After-own-out Inv-loop μ-loop
+last3 c = c .before .before
+
+abbrev last4 : tie.After-own-in Inv-loop μ-loop → tie.After-bank-in Inv-loop μ-loop
+last4 c = c .before .before
+
+-- ---- what the turn left behind: of a payment accepted, of one refused, of any other frame or none
+
+went : (c : tie.Joined1 Inv-loop μ-loop) → let f = c .before in let v = at f .before .loop in
+    Turned (line f) (v .t) (v .ids) (v .days) (v .used) (v .report) (c .if1 .t) (c .if1 .answer) (c .if1 .used) (c .if1 .length) (c .if1 .ids) (c .if1 .days) (c .if1 .report)
+went c =
+    let f = c .before in
+    let v = at f .before .loop in
+    ⊎-elim
+    (λ w.
+    let q : Sought (v .t) (w .2 .result) (w .5 .result) (w .10 .result) (w .13 .result) = record { found = w .5 .ensures; payer-bank = w .10 .ensures; payee-bank = w .13 .ensures } in
+    let a = taken (v .t) (good f) (long f) q (w .16 .result) (w .16 .ensures) (w .17 .taken) in
+    turned (line f) (v .t) (v .ids) (v .days) (v .used) (v .report)
+    (paid (line f) (v .t) (v .ids) (v .days) (v .used) (v .report) (sound f) (w .2 .result) (rw (is f) at (w .2 .ensures)) _ (booked a (w .19 .result) (w .19 .ensures) (w .21 .result) (w .21 .ensures) (w .23 .result) (w .23 .ensures) (w .25 .result) (w .25 .ensures)))
+    (record { codes-long = v .inv .5 .codes-long; accounts-long = simp length-set (long f) }) _ _ _ _ _ _ _ (w .26) (w .27) (w .28) (w .29) (w .30) (w .31 ∙ w .17 .taken) (w .32))
+    (⊎-elim
+    (λ w.
+    let q : Sought (v .t) (w .2 .result) (w .5 .result) (w .10 .result) (w .13 .result) = record { found = w .5 .ensures; payer-bank = w .10 .ensures; payee-bank = w .13 .ensures } in
+    turned (line f) (v .t) (v .ids) (v .days) (v .used) (v .report)
+    (paid (line f) (v .t) (v .ids) (v .days) (v .used) (v .report) (sound f) (w .2 .result) (rw (is f) at (w .2 .ensures)) _ (refused (v .t) (good f) (long f) q (w .16 .result) (w .16 .ensures) (w .17 .left)))
+    (v .inv .5) _ _ _ _ _ _ _ (w .18) (w .19) (w .20) (w .21) (w .22) (w .23) (w .24))
+    (λ w.
+    turned (line f) (v .t) (v .ids) (v .days) (v .used) (v .report) (rw (is f) at (w .5 .ensures))
+    (record { codes-long = search (needs, w .5 .ok .1 .1 .1 .0 .1 .1 .0 .1); accounts-long = search (needs, length-mapped, w .5 .ok .1 .1 .1 .0 .1 .1 .1 .0 .1) }) _ _ _ _ _ _ _ (w .8) (w .9) (w .10) (w .11) (w .12) (w .13) (w .14)))
+    (c .if1 .came)
+
+-- ---- the needs
 
 next-end-requires : tie.Need-next-end-requires Inv-loop μ-loop
 next-end-requires c κs = omega arith
@@ -28,74 +142,199 @@ next-end-requires c κs = omega arith
 loop-holds : tie.Need-loop-holds Inv-loop μ-loop
 loop-holds c =
     let s = c .before .before .before in
-    let z : length (s .args .out .now) - 0 ≡ length (s .args .out .now) = omega arith in
-    (begin (s .args .lines .now) (s .args .out .now) _ _ _ _ (s .pre), rw z (c .next-end .ensures), refl, search needs)
+    let z : length (s .args .out .now) - 0 ≡ length (s .args .out .now) = omega arith in (
+      begin (s .args .lines .now) (s .args .out .now) _ _ _ _ (s .pre),
+      rw z (c .next-end .ensures),
+      refl,
+      search needs,
+      search needs,
+      record { codes-long = search needs; accounts-long = search (needs, length-mapped) },
+    )
 
--- in a turn: the line's end is at or behind its start, and there is room
-ahead : (c : tie.In-loop Inv-loop μ-loop) → c .before .loop .read ≤ c .before .loop .end
-ahead c = forward _ _ _ _ _ _ _ _ _ _ _ (c .before .loop .inv .0) (c .before .loop .inv .1) (c .loop-test .taken)
+sub-read-frame : tie.Need-sub-read-frame Inv-loop μ-loop
+sub-read-frame c = ahead c
 
-roomy : (c : tie.In-loop Inv-loop μ-loop) → c .before .loop .written + 1829 ≤ length (c .before .loop .out)
-roomy c = omega (arith, fits _ _ _ _ _ _ _ _ _ _ _ (c .before .loop .inv .0) (c .before .loop .inv .1) (c .loop-test .taken), c .before .loop .inv .2)
+part-read-frame-start : tie.Need-part-read-frame-start Inv-loop μ-loop
+part-read-frame-start c = ahead c
 
-sub-step-line : tie.Need-sub-step-line Inv-loop μ-loop
-sub-step-line c = ahead (c .before .before)
+part-read-frame-end : tie.Need-part-read-frame-end Inv-loop μ-loop
+part-read-frame-end c = omega (arith, c .loop-test .taken)
 
-part-step-line-start : tie.Need-part-step-line-start Inv-loop μ-loop
-part-step-line-start c = ahead (c .before .before)
+slice-aggregate-read-frame : tie.Need-slice-aggregate-read-frame Inv-loop μ-loop
+slice-aggregate-read-frame c = sym (c .before .before .before .loop .inv .4)
 
-part-step-line-end : tie.Need-part-step-line-end Inv-loop μ-loop
-part-step-line-end c = omega (arith, c .before .before .loop-test .taken)
+read-frame-requires : tie.Need-read-frame-requires Inv-loop μ-loop
+read-frame-requires c κs = search needs
 
-slice-aggregate-step-line : tie.Need-slice-aggregate-step-line Inv-loop μ-loop
-slice-aggregate-step-line c = sym (c .before .before .before .before .before .loop .inv .3)
+array-share-prefix-frame : tie.Need-array-share-prefix-frame Inv-loop μ-loop
+array-share-prefix-frame c = within (c .before)
 
-step-line-requires : tie.Need-step-line-requires Inv-loop μ-loop
-step-line-requires c κs = c .before .before .before .before .before .loop .inv .0 .sound
+slice-aggregate-transfer-at : tie.Need-slice-aggregate-transfer-at Inv-loop μ-loop
+slice-aggregate-transfer-at c = let f = c .before .before in sym (frame-long (line f) _ _ _ (at f .before .loop .inv .4) (f .before .read-frame .ensures))
+
+transfer-at-requires : tie.Need-transfer-at-requires Inv-loop μ-loop
+transfer-at-requires c κs = let f = c .before .before in frame-formed (line f) _ _ _ (at f .before .loop .inv .4) (f .before .read-frame .ensures) (c .before .if1 .taken)
+
+find-parties-requires : tie.Need-find-parties-requires Inv-loop μ-loop
+find-parties-requires c κs = let f = c .before .before .before .before .before in (sound f .within, at f .before .loop .inv .5 .codes-long)
+
+mul-x : tie.Need-mul-x Inv-loop μ-loop
+mul-x c = omega (arith, c .find-parties .ensures)
+
+element-copy-out-x : tie.Need-element-copy-out-x Inv-loop μ-loop
+element-copy-out-x c = omega (arith, c .find-parties .ensures)
+
+mul-y : tie.Need-mul-y Inv-loop μ-loop
+mul-y c = omega (arith, c .before .find-parties .ensures)
+
+element-copy-out-y : tie.Need-element-copy-out-y Inv-loop μ-loop
+element-copy-out-y c = omega (arith, c .before .find-parties .ensures)
+
+bank-slot-requires : tie.Need-bank-slot-requires Inv-loop μ-loop
+bank-slot-requires c κs = let f = c .before .before .before .before .before .before .before .before .before .before in (sound f .within, at f .before .loop .inv .5 .codes-long)
+
+bank-slot-requires-2 : tie.Need-bank-slot-requires-2 Inv-loop μ-loop
+bank-slot-requires-2 c κs = let f = c .before .before .before .before .before .before .before .before .before .before .before .before .before in (sound f .within, at f .before .loop .inv .5 .codes-long)
+
+mul-decide : tie.Need-mul-decide Inv-loop μ-loop
+mul-decide c = omega (arith, sought c)
+
+element-copy-out-decide : tie.Need-element-copy-out-decide Inv-loop μ-loop
+element-copy-out-decide c = omega (arith, sought c)
+
+mul-decide-2 : tie.Need-mul-decide-2 Inv-loop μ-loop
+mul-decide-2 c = omega (arith, sought (c .before))
+
+element-copy-out-decide-2 : tie.Need-element-copy-out-decide-2 Inv-loop μ-loop
+element-copy-out-decide-2 c = omega (arith, sought (c .before))
+
+decide-requires : tie.Need-decide-requires Inv-loop μ-loop
+decide-requires c κs = let b = c .before .before in all-sized (table (front b)) (good (front b)) (long (front b)) (sought b)
+
+mul-bank-out : tie.Need-mul-bank-out Inv-loop μ-loop
+mul-bank-out c = omega (arith, sought (sides c))
+
+element-copy-out-bank-out : tie.Need-element-copy-out-bank-out Inv-loop μ-loop
+element-copy-out-bank-out c = omega (arith, sought (sides c))
+
+bank-out-requires : tie.Need-bank-out-requires Inv-loop μ-loop
+bank-out-requires c κs = let a = accepted (c .before) in (a .in-range, out-room a)
+
+mul-t : tie.Need-mul-t Inv-loop μ-loop
+mul-t c = omega (arith, sought (sides (last c)))
+
+element-set-from-t : tie.Need-element-set-from-t Inv-loop μ-loop
+element-set-from-t c = omega (arith, sought (sides (last c)))
+
+mul-own-out : tie.Need-mul-own-out Inv-loop μ-loop
+mul-own-out c = omega (arith, sought (sides (last c)))
+
+element-copy-out-own-out : tie.Need-element-copy-out-own-out Inv-loop μ-loop
+element-copy-out-own-out c = omega (arith, sought (sides (last c)))
+
+own-out-requires : tie.Need-own-out-requires Inv-loop μ-loop
+own-out-requires c κs = let x1 = c .before in let a = accepted (last x1) in (a .in-range, own-out-room a (x1 .bank-out .result) (x1 .bank-out .ensures))
+
+mul-t-2 : tie.Need-mul-t-2 Inv-loop μ-loop
+mul-t-2 c = omega (arith, sought (sides (last (last2 c))))
+
+element-set-from-t-2 : tie.Need-element-set-from-t-2 Inv-loop μ-loop
+element-set-from-t-2 c = omega (arith, sought (sides (last (last2 c))))
+
+mul-bank-in : tie.Need-mul-bank-in Inv-loop μ-loop
+mul-bank-in c = omega (arith, sought (sides (last (last2 c))))
+
+element-copy-out-bank-in : tie.Need-element-copy-out-bank-in Inv-loop μ-loop
+element-copy-out-bank-in c = omega (arith, sought (sides (last (last2 c))))
+
+bank-in-requires : tie.Need-bank-in-requires Inv-loop μ-loop
+bank-in-requires c κs = let x2 = c .before in let x1 = last2 x2 in let a = accepted (last x1) in (a .in-range, in-room a (x1 .bank-out .result) (x1 .bank-out .ensures) (x2 .own-out .result) (x2 .own-out .ensures))
+
+mul-t-3 : tie.Need-mul-t-3 Inv-loop μ-loop
+mul-t-3 c = omega (arith, sought (sides (last (last2 (last3 c)))))
+
+element-set-from-t-3 : tie.Need-element-set-from-t-3 Inv-loop μ-loop
+element-set-from-t-3 c = omega (arith, sought (sides (last (last2 (last3 c)))))
+
+mul-own-in : tie.Need-mul-own-in Inv-loop μ-loop
+mul-own-in c = omega (arith, sought (sides (last (last2 (last3 c)))))
+
+element-copy-out-own-in : tie.Need-element-copy-out-own-in Inv-loop μ-loop
+element-copy-out-own-in c = omega (arith, sought (sides (last (last2 (last3 c)))))
+
+own-in-requires : tie.Need-own-in-requires Inv-loop μ-loop
+own-in-requires c κs = let x3 = c .before in let x2 = last3 x3 in let x1 = last2 x2 in let a = accepted (last x1) in
+    (a .in-range, own-in-room a (x1 .bank-out .result) (x1 .bank-out .ensures) (x2 .own-out .result) (x2 .own-out .ensures) (x3 .bank-in .result) (x3 .bank-in .ensures))
+
+mul-t52 : tie.Need-mul-t52 Inv-loop μ-loop
+mul-t52 c = omega (arith, sought (sides (last (last2 (last3 (last4 c))))))
+
+element-set-from-t-4 : tie.Need-element-set-from-t-4 Inv-loop μ-loop
+element-set-from-t-4 c = omega (arith, sought (sides (last (last2 (last3 (last4 c))))))
+
+array-share-prefix-frame-2 : tie.Need-array-share-prefix-frame-2 Inv-loop μ-loop
+array-share-prefix-frame-2 c = within (c .before .before .before)
+
+slice-aggregate-step : tie.Need-slice-aggregate-step Inv-loop μ-loop
+slice-aggregate-step c = let f = c .before .before .before .before in sym (frame-long (line f) _ _ _ (at f .before .loop .inv .4) (f .before .read-frame .ensures))
+
+slice-aggregate-step-2 : tie.Need-slice-aggregate-step-2 Inv-loop μ-loop
+slice-aggregate-step-2 c = sym (at (c .before .before .before .before .before) .before .loop .inv .3)
+
+step-requires : tie.Need-step-requires Inv-loop μ-loop
+step-requires c κs = sound (c .before .before .before .before .before)
 
 slice-aggregate-write-line : tie.Need-slice-aggregate-write-line Inv-loop μ-loop
-slice-aggregate-write-line c = sym (same-report _ _ _ _ _ _ _ _ _ _ (c .before .before .before .before .step-line .ensures) ∙ c .before .before .before .before .before .before .before .before .before .before .loop .inv .3)
+slice-aggregate-write-line c = let g = c .before .before in sym (same-report _ _ _ _ _ _ _ _ _ _ (went g .played) ∙ at (g .before) .before .loop .inv .3)
 
 write-line-requires : tie.Need-write-line-requires Inv-loop μ-loop
 write-line-requires c κs =
-    let s = c .before .before .before .before .step-line .ensures in
-    let long = c .before .before .before .before .before .before .before .before .before .before .loop .inv .3 in
-    let same = same-report _ _ _ _ _ _ _ _ _ _ s in
-    (omega (arith, roomy (c .before .before .before .before .before .before .before .before .before), s .fits, long), small _ _ _ _ _ _ _ _ _ _ s, omega (arith, s .fits, same))
+    let g = c .before .before in
+    let s = went g .played in
+    let v = at (g .before) in
+    (omega (arith, roomy v, s .fits, v .before .loop .inv .3), small _ _ _ _ _ _ _ _ _ _ s, omega (arith, s .fits, same-report _ _ _ _ _ _ _ _ _ _ s))
 
 add-read : tie.Need-add-read Inv-loop μ-loop
-add-read c = omega (arith, c .before .before .before .before .before .before .before .before .before .before .before .before .loop-test .taken, c .before .before .before .before .before .before .before .before .before .before .before .before .before .before .before .before .before .good .1 .1 .1 .1 .0 .0)
+add-read c = let v = at (c .before .before .before .before .before .before) in omega (arith, v .loop-test .taken, v .before .before .before .before .before .good .1 .1 .1 .1 .0 .0)
 
 sub-next-end : tie.Need-sub-next-end Inv-loop μ-loop
 sub-next-end c =
-    let l = c .before .before .before .before .before .before .before .before .before .before .before .before .before .loop in
-    let p = turn _ _ _ _ _ _ _ _ _ _ _ (l .inv .0) (l .inv .1) (c .before .before .before .before .before .before .before .before .before .before .before .before .loop-test .taken) _ _ _ _ _ _ _ _ refl (l .inv .3) (c .before .before .before .before .before .before .before .step-line .ensures) (c .before .before .write-line .ensures) in
-    omega (arith, p .room, c .before .before .write-line .kept .0, l .inv .2)
+    let g = c .before .before .before .before .before in
+    let v = at (g .before) in
+    let p = turn _ _ _ _ _ _ _ _ _ _ _ (v .before .loop .inv .0) (v .before .loop .inv .1) (v .loop-test .taken) _ _ _ _ _ _ _ _ refl (v .before .loop .inv .3) (went g .played) (c .before .before .write-line .ensures) in
+    omega (arith, p .room, c .before .before .write-line .kept .0, v .before .loop .inv .2)
 
 next-end-requires-2 : tie.Need-next-end-requires-2 Inv-loop μ-loop
-next-end-requires-2 c κs = omega (arith, c .before .before .before .before .before .before .before .before .before .before .before .before .loop-test .taken)
+next-end-requires-2 c κs = omega (arith, at (c .before .before .before .before .before .before) .loop-test .taken)
 
 loop-less : tie.Need-loop-less Inv-loop μ-loop
-loop-less c = omega (arith, ahead (c .before .before .before .before .before .before .before .before .before .before .before .before .before), c .before .before .before .before .before .before .before .before .before .before .before .before .before .loop-test .taken)
+loop-less c = let v = at (c .before .before .before .before .before .before .before) in omega (arith, ahead v, v .loop-test .taken)
 
 loop-again : tie.Need-loop-again Inv-loop μ-loop
 loop-again c =
-    let l = c .before .before .before .before .before .before .before .before .before .before .before .before .before .before .loop in
-    let s = c .before .before .before .before .before .before .before .before .step-line .ensures in
-    let p = turn _ _ _ _ _ _ _ _ _ _ _ (l .inv .0) (l .inv .1) (c .before .before .before .before .before .before .before .before .before .before .before .before .before .loop-test .taken) _ _ _ _ _ _ _ _ refl (l .inv .3) s (c .before .before .before .write-line .ensures) in
-    let same : length (c .before .before .before .write-line .last .0) ≡ length (c .before .before .before .before .before .before .before .before .before .before .before .before .before .before .before .before .before .before .args .out .now) = c .before .before .before .write-line .kept .0 ∙ l .inv .2 in
-    (p, rw same at (c .next-end2 .ensures), same, same-report _ _ _ _ _ _ _ _ _ _ s ∙ l .inv .3)
+    let g = c .before .before .before .before .before .before in
+    let v = at (g .before) in
+    let w = c .before .before .before .write-line in
+    let p = turn _ _ _ _ _ _ _ _ _ _ _ (v .before .loop .inv .0) (v .before .loop .inv .1) (v .loop-test .taken) _ _ _ _ _ _ _ _ refl (v .before .loop .inv .3) (went g .played) (w .ensures) in
+    let same : length (w .last .0) ≡ length (v .before .before .before .before .before .args .out .now) = w .kept .0 ∙ v .before .loop .inv .2 in (
+      p,
+      rw same at (c .next-end2 .ensures),
+      same,
+      same-report _ _ _ _ _ _ _ _ _ _ (went g .played) ∙ v .before .loop .inv .3,
+      g .before .before .read-frame .kept .1 .0 ∙ v .before .loop .inv .4,
+      went g .long,
+    )
 
 same-length : tie.Need-same-length Inv-loop μ-loop
 same-length c = c .before .loop .inv .2
 
 returns : tie.Need-returns Inv-loop μ-loop
 returns c =
-    let l = c .before .loop in
+    let v = c .before .loop in
     record {
-      passed = l .inv .0;
-      which = all-chosen _ _ _ _ _ _ _ _ _ _ (l .inv .0) (l .inv .1 .done (c .loop-test .left));
-      stop = ⊎-elim (λ w. inl w) (λ w. inr (omega (arith, l .inv .0 .room))) (l .inv .1 .done (c .loop-test .left));
+      passed = v .inv .0;
+      which = all-chosen _ _ _ _ _ _ _ _ _ _ (v .inv .0) (v .inv .1 .done (c .loop-test .left));
+      stop = ⊎-elim (λ w. inl w) (λ w. inr (omega (arith, v .inv .0 .room))) (v .inv .1 .done (c .loop-test .left));
     }
 
 pub run-spec : {M : Type 1} → statement M
@@ -106,11 +345,50 @@ run-spec =
     μ-loop
     next-end-requires
     loop-holds
-    sub-step-line
-    part-step-line-start
-    part-step-line-end
-    slice-aggregate-step-line
-    step-line-requires
+    sub-read-frame
+    part-read-frame-start
+    part-read-frame-end
+    slice-aggregate-read-frame
+    read-frame-requires
+    array-share-prefix-frame
+    slice-aggregate-transfer-at
+    transfer-at-requires
+    find-parties-requires
+    mul-x
+    element-copy-out-x
+    mul-y
+    element-copy-out-y
+    bank-slot-requires
+    bank-slot-requires-2
+    mul-decide
+    element-copy-out-decide
+    mul-decide-2
+    element-copy-out-decide-2
+    decide-requires
+    mul-bank-out
+    element-copy-out-bank-out
+    bank-out-requires
+    mul-t
+    element-set-from-t
+    mul-own-out
+    element-copy-out-own-out
+    own-out-requires
+    mul-t-2
+    element-set-from-t-2
+    mul-bank-in
+    element-copy-out-bank-in
+    bank-in-requires
+    mul-t-3
+    element-set-from-t-3
+    mul-own-in
+    element-copy-out-own-in
+    own-in-requires
+    mul-t52
+    element-set-from-t-4
+    array-share-prefix-frame-2
+    slice-aggregate-step
+    slice-aggregate-step-2
+    step-requires
     slice-aggregate-write-line
     write-line-requires
     add-read

@@ -1,0 +1,69 @@
+-- One turn of the loop: the frame that a line is, and what a payment or any other command leaves behind. Assumes nothing.
+use mathlib.Core.Path.{_≡_, refl, sym, ap, _∙_}
+use mathlib.Core.Bool.{Bool, true, false, cond, _&&_}
+use mathlib.Core.List.{List, [], _∷_}
+use Prim.Native.Nat.{ℕ, _%_, _≤_, _<_}
+use native.Mathlib.Omega.{arith}
+use lib.Dec.{eqb}
+use lib.ListN.{length, take, length-append}
+use lib.Seq.{take-at, length-take-le}
+use Rattle.frame.specs.Hex.{allHex, unhex}
+use Rattle.frame.specs.Frame.{isFrame, commandsOf, lineFrame, given, readFrame}
+use Rattle.frame.specs.Filled.{Filled}
+use Rattle.frame.proofs.Digits.{both}
+use Rattle.table.specs.declared.Table.{Table}
+use Rattle.table.specs.declared.Outcome.{Outcome}
+use Rattle.table.specs.Promise.{Called}
+use Rattle.payment.specs.declared.Transfer.{Transfer}
+use Rattle.payment.proofs.Parties.{asPayment}
+use Rattle.promise.specs.declared.Stepped.{Stepped}
+use Rattle.promise.specs.Promise.{Sound, Played}
+use Rattle.step.proofs.Laws.{by-table}
+
+-- ---- the frame of a line
+
+line-formed : (l : List ℕ) → 0 < length (lineFrame l) → isFrame (lineFrame l) ≡ true
+unfolding lineFrame
+line-formed l = go ((eqb (length l % 2) 0 && allHex l) && isFrame (unhex l)) refl
+  where
+    go : (b : Bool) → ((eqb (length l % 2) 0 && allHex l) && isFrame (unhex l)) ≡ b → 0 < length (cond b (unhex l) []) → isFrame (cond b (unhex l) []) ≡ true
+    go true e h = both (eqb (length l % 2) 0 && allHex l) (isFrame (unhex l)) e .1
+    go false e h = absurd (omega arith)
+
+-- read into a buffer of 352 bytes
+module _ (line buf buf′ : List ℕ) (n : ℕ) (room : length buf ≡ 352) (f : Filled (readFrame line (length buf)) buf buf′ n) where
+  pub frame-within : n ≤ length buf′
+  frame-within = omega (arith, f .length-is, simp length-append at (ap length (f .bytes-are)))
+
+  pub frame-long : length (take n buf′) ≡ n
+  frame-long = length-take-le n buf′ frame-within
+
+  pub frame-is : take n buf′ ≡ lineFrame line
+  unfolding readFrame given
+  frame-is = ap (take n) (f .bytes-are) ∙ take-at (readFrame line (length buf)) _ n (sym (f .length-is)) ∙ ap (readFrame line) room
+
+  pub frame-formed : n ≡ 22 → (isFrame (take n buf′) ≡ true) × (length (take n buf′) ≡ 22)
+  frame-formed e = (ap isFrame frame-is ∙ line-formed line (omega (arith, frame-long, ap length frame-is)), frame-long ∙ e)
+
+-- ---- what a turn leaves behind
+
+-- a table's arrays have their lengths
+pub record Long (t : Table) : Type 0 where
+  pub codes-long : length (t .codes) ≡ 64
+  pub accounts-long : length (t .accounts) ≡ 64
+
+pub record Turned (l : List ℕ) (t : Table) (ids days : List ℕ) (used : ℕ) (report : List ℕ) (u : Table) (answer used′ len : ℕ) (ids′ days′ report′ : List ℕ) : Type 0 where
+  pub played : Played (commandsOf (lineFrame l)) t ids days used report (record { answer = answer; table = u; used = used′; «report_len» = len }) ids′ days′ report′
+  pub long : Long u
+
+module _ (l : List ℕ) (t : Table) (ids days : List ℕ) (used : ℕ) (report : List ℕ) where
+  -- the loop's variables are what came back
+  pub turned : {r : Stepped} {ids′ days′ report′ : List ℕ} → Played (commandsOf (lineFrame l)) t ids days used report r ids′ days′ report′ → Long (r .table)
+      → (u : Table) (answer used′ len : ℕ) (ids″ days″ report″ : List ℕ) → ids″ ≡ ids′ → days″ ≡ days′ → used′ ≡ r .used → u ≡ r .table → report″ ≡ report′ → answer ≡ r .answer → len ≡ r .«report_len»
+      → Turned l t ids days used report u answer used′ len ids″ days″ report″
+  turned p g u answer used′ len ids″ days″ report″ ei ed eu et er ea el = rw (ei, ed, eu, et, er, ea, el) (record { played = p; long = g })
+
+  -- a payment, which looks at the table alone
+  pub paid : Sound t ids days used → (p : Transfer) → commandsOf (lineFrame l) ≡ asPayment p ∷ [] → (o : Outcome) → Called (asPayment p) t o
+      → Played (commandsOf (lineFrame l)) t ids days used report (record { answer = o .answer; table = o .table; used = used; «report_len» = 0 }) ids days report
+  paid g p e o c = by-table (commandsOf (lineFrame l)) t ids days used report _ (asPayment p) o e tt tt g c refl
