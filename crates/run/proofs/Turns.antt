@@ -10,7 +10,7 @@ use lib.Seq.{take-at, length-take-le}
 use Rattle.frame.specs.Hex.{allHex, unhex}
 use Rattle.frame.specs.Frame.{isFrame, commandsOf, lineFrame, given, readFrame}
 use Rattle.frame.specs.Filled.{Filled}
-use Rattle.frame.proofs.Digits.{both}
+use Rattle.octets.proofs.Numbers.{both}
 use Rattle.table.specs.declared.Table.{Table}
 use Rattle.table.specs.declared.Outcome.{Outcome}
 use Rattle.table.specs.Promise.{Called}

@@ -11,7 +11,7 @@ use Rattle.rules.specs.Message.{decimal}
 use Rattle.frame.specs.Field.{size, rowSize, width, plainValue, valueOf, allValues}
 use Rattle.frame.specs.Frame.{Kind, K01, K02, K03, K04, K05, K06, K07, K08, K09, K0a, kindByte, fieldsOf, isFrame, commandOf, commandsOf}
 use Rattle.frame.proofs.Commands.{kind-of-byte}
-use Rattle.slices.proofs.Parts.{part-first}
+use Rattle.octets.proofs.Places.{part-first}
 use Rattle.command.proofs.ByKind.{end, kind-length, kind-command}
 
 module _ (b : List ℕ) (h : isFrame b ≡ true) (long : length b ≡ 22) where
