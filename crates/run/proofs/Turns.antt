@@ -5,11 +5,11 @@ use mathlib.Core.List.{List, [], _∷_}
 use Prim.Native.Nat.{ℕ, _%_, _≤_, _<_}
 use native.Mathlib.Omega.{arith}
 use lib.Dec.{eqb}
-use lib.ListN.{length, take, length-append}
-use lib.Seq.{take-at, length-take-le}
+use lib.ListN.{length, take, length-take}
+use lib.Seq.{length-take-le}
 use Rattle.frame.specs.Hex.{allHex, unhex}
-use Rattle.frame.specs.Frame.{isFrame, commandsOf, lineFrame, given, readFrame}
-use Rattle.frame.specs.Filled.{Filled}
+use Rattle.frame.specs.Frame.{isFrame, commandsOf, lineFrame}
+use Rattle.reader.specs.Unpacked.{Unpacked}
 use Rattle.octets.proofs.Numbers.{both}
 use Rattle.table.specs.declared.Table.{Table}
 use Rattle.table.specs.declared.Outcome.{Outcome}
@@ -30,20 +30,16 @@ line-formed l = go ((eqb (length l % 2) 0 && allHex l) && isFrame (unhex l)) ref
     go true e h = both (eqb (length l % 2) 0 && allHex l) (isFrame (unhex l)) e .1
     go false e h = absurd (omega arith)
 
--- read into a buffer of 352 bytes
-module _ (line buf buf′ : List ℕ) (n : ℕ) (room : length buf ≡ 352) (f : Filled (readFrame line (length buf)) buf buf′ n) where
+-- unpacked into a buffer
+module _ (line buf buf′ : List ℕ) (n : ℕ) (f : Unpacked line buf buf′ n) where
   pub frame-within : n ≤ length buf′
-  frame-within = omega (arith, f .length-is, simp length-append at (ap length (f .bytes-are)))
+  frame-within = omega (arith, f .length-is, simp length-take at (ap length (f .frame-is)))
 
   pub frame-long : length (take n buf′) ≡ n
   frame-long = length-take-le n buf′ frame-within
 
-  pub frame-is : take n buf′ ≡ lineFrame line
-  unfolding readFrame given
-  frame-is = ap (take n) (f .bytes-are) ∙ take-at (readFrame line (length buf)) _ n (sym (f .length-is)) ∙ ap (readFrame line) room
-
   pub frame-formed : n ≡ 22 → (isFrame (take n buf′) ≡ true) × (length (take n buf′) ≡ 22)
-  frame-formed e = (ap isFrame frame-is ∙ line-formed line (omega (arith, frame-long, ap length frame-is)), frame-long ∙ e)
+  frame-formed e = (ap isFrame (f .frame-is) ∙ line-formed line (omega (arith, f .length-is)), frame-long ∙ e)
 
 -- ---- what a turn leaves behind
 

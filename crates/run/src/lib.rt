@@ -10,7 +10,7 @@ use payment::decide;
 use payment::find_parties;
 use payment::own_in;
 use payment::own_out;
-use reader::read_frame;
+use reader::unpack;
 use table::Table;
 use transfer::transfer_at;
 
@@ -52,7 +52,7 @@ pub fn run(
     let mut written: usize = 0;
     let mut end = next_end(lines, read, out.len());
     while end < lines.len() {
-        let n = read_frame(&lines[read..end], &mut frame);
+        let n = unpack(&lines[read..end], &mut frame);
         let mut answer: u64 = 0;
         let mut length: usize = 0;
         if n == 22 {

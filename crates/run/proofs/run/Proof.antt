@@ -20,7 +20,7 @@ use Rattle.promise.specs.Promise.{Sound}
 use Rattle.promise.proofs.Laws.{good-table}
 use Rattle.run.specs.Run.{NextIs, Passed}
 use Rattle.run.proofs.Laws.{small, same-report, begin, turn, forward, fits, all-chosen}
-use Rattle.run.proofs.Turns.{frame-within, frame-long, frame-is, frame-formed, Long, Turned, turned, paid}
+use Rattle.run.proofs.Turns.{frame-within, frame-long, frame-formed, Long, Turned, turned, paid}
 use Rattle.run.proofs.run.Statement.{statement}
 use Rattle.run.proofs.run.Tie as tie
 
@@ -53,11 +53,11 @@ at f = f .before .before .before .before
 abbrev line : tie.After-frame2 Inv-loop μ-loop → List ℕ
 line f = let v = at f .before .loop in take (v .end - v .read) (drop (v .read) (at f .before .before .before .before .before .args .lines .now))
 
-within : (f : tie.After-frame2 Inv-loop μ-loop) → f .before .read-frame .result ≤ length (f .before .read-frame .last .1 .0)
-within f = frame-within (line f) _ _ _ (at f .before .loop .inv .4) (f .before .read-frame .ensures)
+within : (f : tie.After-frame2 Inv-loop μ-loop) → f .before .unpack .result ≤ length (f .before .unpack .last .1 .0)
+within f = frame-within (line f) _ _ _ (f .before .unpack .ensures)
 
-is : (f : tie.After-frame2 Inv-loop μ-loop) → take (f .before .read-frame .result) (f .before .read-frame .last .1 .0) ≡ lineFrame (line f)
-is f = frame-is (line f) _ _ _ (at f .before .loop .inv .4) (f .before .read-frame .ensures)
+is : (f : tie.After-frame2 Inv-loop μ-loop) → take (f .before .unpack .result) (f .before .unpack .last .1 .0) ≡ lineFrame (line f)
+is f = f .before .unpack .ensures .frame-is
 
 -- ---- the table before the turn
 
@@ -151,29 +151,29 @@ loop-holds c =
       record { codes-long = search needs; accounts-long = search (needs, length-mapped) },
     )
 
-sub-read-frame : tie.Need-sub-read-frame Inv-loop μ-loop
-sub-read-frame c = ahead c
+sub-unpack : tie.Need-sub-unpack Inv-loop μ-loop
+sub-unpack c = ahead c
 
-part-read-frame-start : tie.Need-part-read-frame-start Inv-loop μ-loop
-part-read-frame-start c = ahead c
+part-unpack-start : tie.Need-part-unpack-start Inv-loop μ-loop
+part-unpack-start c = ahead c
 
-part-read-frame-end : tie.Need-part-read-frame-end Inv-loop μ-loop
-part-read-frame-end c = omega (arith, c .loop-test .taken)
+part-unpack-end : tie.Need-part-unpack-end Inv-loop μ-loop
+part-unpack-end c = omega (arith, c .loop-test .taken)
 
-slice-aggregate-read-frame : tie.Need-slice-aggregate-read-frame Inv-loop μ-loop
-slice-aggregate-read-frame c = sym (c .before .before .before .loop .inv .4)
+slice-aggregate-unpack : tie.Need-slice-aggregate-unpack Inv-loop μ-loop
+slice-aggregate-unpack c = sym (c .before .before .before .loop .inv .4)
 
-read-frame-requires : tie.Need-read-frame-requires Inv-loop μ-loop
-read-frame-requires c κs = search needs
+unpack-requires : tie.Need-unpack-requires Inv-loop μ-loop
+unpack-requires c κs = omega (arith, c .before .before .before .loop .inv .4)
 
 array-share-prefix-frame : tie.Need-array-share-prefix-frame Inv-loop μ-loop
 array-share-prefix-frame c = within (c .before)
 
 slice-aggregate-transfer-at : tie.Need-slice-aggregate-transfer-at Inv-loop μ-loop
-slice-aggregate-transfer-at c = let f = c .before .before in sym (frame-long (line f) _ _ _ (at f .before .loop .inv .4) (f .before .read-frame .ensures))
+slice-aggregate-transfer-at c = let f = c .before .before in sym (frame-long (line f) _ _ _ (f .before .unpack .ensures))
 
 transfer-at-requires : tie.Need-transfer-at-requires Inv-loop μ-loop
-transfer-at-requires c κs = let f = c .before .before in frame-formed (line f) _ _ _ (at f .before .loop .inv .4) (f .before .read-frame .ensures) (c .before .if1 .taken)
+transfer-at-requires c κs = let f = c .before .before in frame-formed (line f) _ _ _ (f .before .unpack .ensures) (c .before .if1 .taken)
 
 find-parties-requires : tie.Need-find-parties-requires Inv-loop μ-loop
 find-parties-requires c κs = let f = c .before .before .before .before .before in (sound f .within, at f .before .loop .inv .5 .codes-long)
@@ -276,7 +276,7 @@ array-share-prefix-frame-2 : tie.Need-array-share-prefix-frame-2 Inv-loop μ-loo
 array-share-prefix-frame-2 c = within (c .before .before .before)
 
 slice-aggregate-step : tie.Need-slice-aggregate-step Inv-loop μ-loop
-slice-aggregate-step c = let f = c .before .before .before .before in sym (frame-long (line f) _ _ _ (at f .before .loop .inv .4) (f .before .read-frame .ensures))
+slice-aggregate-step c = let f = c .before .before .before .before in sym (frame-long (line f) _ _ _ (f .before .unpack .ensures))
 
 slice-aggregate-step-2 : tie.Need-slice-aggregate-step-2 Inv-loop μ-loop
 slice-aggregate-step-2 c = sym (at (c .before .before .before .before .before) .before .loop .inv .3)
@@ -321,7 +321,7 @@ loop-again c =
       rw same at (c .next-end2 .ensures),
       same,
       same-report _ _ _ _ _ _ _ _ _ _ (went g .played) ∙ v .before .loop .inv .3,
-      g .before .before .read-frame .kept .1 .0 ∙ v .before .loop .inv .4,
+      g .before .before .unpack .kept .1 .0 ∙ v .before .loop .inv .4,
       went g .long,
     )
 
@@ -345,11 +345,11 @@ run-spec =
     μ-loop
     next-end-requires
     loop-holds
-    sub-read-frame
-    part-read-frame-start
-    part-read-frame-end
-    slice-aggregate-read-frame
-    read-frame-requires
+    sub-unpack
+    part-unpack-start
+    part-unpack-end
+    slice-aggregate-unpack
+    unpack-requires
     array-share-prefix-frame
     slice-aggregate-transfer-at
     transfer-at-requires
