@@ -57,6 +57,14 @@ hex-at [] i e h = absurd (omega arith)
 hex-at (d ∷ t) zero e h = both (isHex d) _ e .0
 hex-at (d ∷ t) (suc i) e h = hex-at t i (both (isHex d) _ e .1) (omega arith)
 
+pub hex-below : (d : ℕ) → isHex d ≡ true → d < 128
+unfolding isHex isDigit isLetter
+hex-below d e = go (isDigit d) refl e
+  where
+    go : (t : Bool) → isDigit d ≡ t → (t || isLetter d) ≡ true → d < 128
+    go true f g = omega (arith, leb-true d 57 (both (leb 48 d) _ f .1))
+    go false f g = omega (arith, leb-true d 102 (both (leb 97 d) _ g .1))
+
 -- a digit's value by its low bits
 pub nibble-bits : (d : ℕ) → isHex d ≡ true → (d % 16 + d / 64 * 9 ≡ nibble d) × (d % 16 + d / 64 * 9 < 16)
 unfolding nibble isHex isDigit isLetter

@@ -1,12 +1,17 @@
 -- A line unpacked into a buffer of the reader's own. Assumes nothing.
 use mathlib.Core.Path.{_≡_}
-use mathlib.Core.Bool.{Bool, cond, _&&_}
+use mathlib.Core.Bool.{Bool, true, cond, _&&_}
 use mathlib.Core.List.{List, _++_}
 use Prim.Native.Nat.{ℕ, _/_, _%_}
 use lib.Dec.{eqb, leb}
-use lib.ListN.{length, take, drop}
-use Rattle.frame.specs.Hex.{allHex, unhex}
+use lib.ListN.{length, getD, take, drop}
+use Rattle.frame.specs.Hex.{isHex, allHex, nibble, unhex}
 use Rattle.frame.specs.Frame.{lineFrame}
+
+-- at each hexadecimal digit's place its value
+pub record DigitValues (values : List ℕ) : Type 0 where
+  pub long : length values ≡ 128
+  pub value : (d : ℕ) → isHex d ≡ true → getD values d 0 ≡ nibble d
 
 -- pairs of hexadecimal digits, of at most 352 bytes
 unfoldable pub isPacked : List ℕ → Bool

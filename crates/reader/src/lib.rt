@@ -7,7 +7,7 @@ ghost use lib.ListN.{length, drop};
 ghost use Rattle.frame.specs.Hex.{isHex, allHex, nibble, unhex};
 ghost use Rattle.frame.specs.Frame.{readFrame};
 ghost use Rattle.frame.specs.Filled.{Filled};
-ghost use Rattle.reader.specs.Unpacked.{Unpacked};
+ghost use Rattle.reader.specs.Unpacked.{DigitValues, Unpacked};
 use digits::is_digit;
 use frame::well_formed;
 
@@ -31,22 +31,35 @@ fn all_hex(line: &[u8]) -> bool
     all
 }
 
-// The value of a hexadecimal digit, by its low bits.
-fn digit_value(d: u8) -> u8
-    requires { ⌜ isHex d ≡ true ⌝ }
+// The value of each hexadecimal digit, at the digit's own place. It is made once for many lines: a look-up is faster than the sum.
+pub fn digit_values() -> [u8; 128]
+    ensures { λ r. ⌜ DigitValues r ⌝ }
+{
+    let mut values = [0u8; 128];
+    let mut i: usize = 0;
+    while i < 128 {
+        values[i] = (i % 16 + i / 64 * 9) as u8;
+        i += 1;
+    }
+    values
+}
+
+// The value of a hexadecimal digit.
+fn digit_value(values: &[u8], d: u8) -> u8
+    requires { ⌜ (DigitValues (now values)) × (isHex d ≡ true) ⌝ }
     ensures { λ r. ⌜ (r ≡ nibble d) × (r < 16) ⌝ }
 {
-    d % 16 + d / 64 * 9
+    values[d as usize]
 }
 
 // The n bytes of a line of 2 * n hexadecimal digits.
-fn decode(line: &[u8], n: usize, buf: &mut [u8])
-    requires { ⌜ (length (now line) ≡ 2 * n) × (n ≤ length (now buf)) × (allHex (now line) ≡ true) ⌝ }
+fn decode(line: &[u8], n: usize, buf: &mut [u8], values: &[u8])
+    requires { ⌜ (length (now line) ≡ 2 * n) × (n ≤ length (now buf)) × (allHex (now line) ≡ true) × (DigitValues (now values)) ⌝ }
     ensures { λ _. ⌜ now (buf .exit) ≡ unhex (now (line .entry)) ++ drop n (now (buf .entry)) ⌝ }
 {
     let mut i = 0;
     while i < n {
-        buf[i] = digit_value(line[2 * i]) * 16 + digit_value(line[2 * i + 1]);
+        buf[i] = digit_value(values, line[2 * i]) * 16 + digit_value(values, line[2 * i + 1]);
         i += 1;
     }
 }
@@ -65,8 +78,8 @@ fn copy(src: &[u8], dst: &mut [u8]) -> usize
 }
 
 // The bytes of a line, from byte 0 of the buffer on, and the length of the frame that they are: 0 where they are none.
-pub fn unpack(line: &[u8], buf: &mut [u8]) -> usize
-    requires { ⌜ 352 ≤ length (now buf) ⌝ }
+pub fn unpack(line: &[u8], buf: &mut [u8], values: &[u8]) -> usize
+    requires { ⌜ (352 ≤ length (now buf)) × (DigitValues (now values)) ⌝ }
     ensures { λ r. ⌜ Unpacked (now (line .entry)) (now (buf .entry)) (now (buf .exit)) r ⌝ }
 {
     if line.len() % 2 != 0 {
@@ -79,7 +92,7 @@ pub fn unpack(line: &[u8], buf: &mut [u8]) -> usize
     if !all_hex(line) {
         return 0;
     }
-    decode(line, n, buf);
+    decode(line, n, buf, values);
     if !well_formed(&buf[..n]) {
         return 0;
     }
@@ -95,7 +108,8 @@ pub extern "C" fn read_frame(line: &[u8], frame: &mut [u8]) -> usize
     if frame.len() < 352 {
         return 0;
     }
+    let values = digit_values();
     let mut buf = [0u8; 352];
-    let n = unpack(line, &mut buf);
+    let n = unpack(line, &mut buf, &values);
     copy(&buf[..n], frame)
 }

@@ -10,6 +10,7 @@ use payment::decide;
 use payment::find_parties;
 use payment::own_in;
 use payment::own_out;
+use reader::digit_values;
 use reader::unpack;
 use table::Table;
 use transfer::transfer_at;
@@ -46,13 +47,14 @@ pub fn run(
     requires { ⌜ Sound t (now ids) (now days) used ⌝ }
     ensures { λ r. ⌜ RanIs t (now (ids .entry)) (now (days .entry)) used (now (lines .entry)) (now (out .entry)) r (now (ids .exit)) (now (days .exit)) (now (out .exit)) ⌝ }
 {
+    let values = digit_values();
     let mut frame = [0u8; 352];
     let mut report = [0u8; 913];
     let mut read: usize = 0;
     let mut written: usize = 0;
     let mut end = next_end(lines, read, out.len());
     while end < lines.len() {
-        let n = unpack(&lines[read..end], &mut frame);
+        let n = unpack(&lines[read..end], &mut frame, &values);
         let mut answer: u64 = 0;
         let mut length: usize = 0;
         if n == 22 {

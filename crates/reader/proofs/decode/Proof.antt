@@ -9,10 +9,10 @@ use Rattle.reader.proofs.decode.Statement.{statement}
 use Rattle.reader.proofs.decode.Tie as tie
 
 abbrev Inv-loop : tie.InvT-loop
-Inv-loop line n buf₀ i₀ buf i = (i ≤ n) × (buf ≡ take i (unhex line) ++ drop i buf₀) × (length buf ≡ length buf₀)
+Inv-loop line n buf₀ values i₀ buf i = (i ≤ n) × (buf ≡ take i (unhex line) ++ drop i buf₀) × (length buf ≡ length buf₀)
 
 abbrev μ-loop : tie.MeasureT-loop
-μ-loop line n buf₀ i₀ buf i = n - i
+μ-loop line n buf₀ values i₀ buf i = n - i
 
 loop-holds : tie.Need-loop-holds Inv-loop μ-loop
 loop-holds c = (zero-le, refl, refl)
@@ -25,8 +25,8 @@ shared-slice-read-digit-value c = omega arith
 
 digit-value-requires : tie.Need-digit-value-requires Inv-loop μ-loop
 digit-value-requires c κs =
-    let a = c .before .before .before .before .before in
-    hex-at (a .args .line .now) _ (a .pre .2) (omega arith)
+    let a = c .before .before .before .before .before .before in
+    (a .pre .3, hex-at (a .args .line .now) _ (a .pre .2) (omega arith))
 
 mul-buf : tie.Need-mul-buf Inv-loop μ-loop
 mul-buf c = omega arith
@@ -42,8 +42,8 @@ shared-slice-read-digit-value-2 c = omega arith
 
 digit-value-requires-2 : tie.Need-digit-value-requires-2 Inv-loop μ-loop
 digit-value-requires-2 c κs =
-    let a = c .before .before .before .before .before .before .before in
-    hex-at (a .args .line .now) _ (a .pre .2) (omega arith)
+    let a = c .before .before .before .before .before .before .before .before in
+    (a .pre .3, hex-at (a .args .line .now) _ (a .pre .2) (omega arith))
 
 add-buf : tie.Need-add-buf Inv-loop μ-loop
 add-buf c = omega arith
@@ -60,7 +60,7 @@ loop-less c = omega arith
 loop-again : tie.Need-loop-again Inv-loop μ-loop
 loop-again c =
     let l = c .before .before .before .before .before in
-    let a = l .before .before .before .args in
+    let a = l .before .before .before .before .args in
     let high = c .before .before .digit-value in
     let low = c .digit-value2 in
     let e : high .result * 16 + low .result ≡ getD (unhex (a .line .now)) (l .loop .i) 0 =
@@ -77,7 +77,7 @@ same-length c = omega arith
 returns : tie.Need-returns Inv-loop μ-loop
 returns c =
     let l = c .before in
-    let s = l .before .before .before in
+    let s = l .before .before .before .before in
     l .loop .inv .1 ∙ unhex-end (s .args .line .now) (s .args .buf .now) (s .args .n) (l .loop .i) (s .pre .0) (omega arith)
 
 pub decode-spec : {M : Type 1} → statement M

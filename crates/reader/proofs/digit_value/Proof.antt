@@ -1,16 +1,18 @@
-use Rattle.reader.proofs.Reader.{nibble-bits}
-use borrow.Author.Needs.{needs}
+use mathlib.Core.Path.{_∙_}
+use native.Mathlib.Omega.{arith}
+use Rattle.reader.proofs.Reader.{nibble-bits, hex-below}
 use Rattle.reader.proofs.digit_value.Statement.{statement}
 use Rattle.reader.proofs.digit_value.Tie as tie
 
-mul-result : tie.Need-mul-result
-mul-result c = search needs
-
-add-result : tie.Need-add-result
-add-result c = search needs
+shared-slice-read-result : tie.Need-shared-slice-read-result
+shared-slice-read-result c = let s = c .before in omega (arith, s .pre .0 .long, hex-below (s .args .d) (s .pre .1))
 
 returns : tie.Need-returns
-returns c = nibble-bits (c .args .d) (c .pre)
+returns c =
+    let s = c .before in
+    let e = s .pre .0 .value (s .args .d) (s .pre .1) in
+    let n = nibble-bits (s .args .d) (s .pre .1) in
+    (e, omega (arith, e, n .0, n .1))
 
 pub digit-value-spec : {M : Type 1} → statement M
-digit-value-spec = tie.close (tie.spec mul-result add-result returns)
+digit-value-spec = tie.close (tie.spec shared-slice-read-result returns)

@@ -13,7 +13,7 @@ use Rattle.reader.proofs.unpack.Statement.{statement}
 use Rattle.reader.proofs.unpack.Tie as tie
 
 abbrev start : tie.After-slice-known2 → tie.Start
-start c = c .before .before .before .before .before .before .before .before .before .before
+start c = c .before .before .before .before .before .before .before .before .before .before .before
 
 -- every digit is one
 digits : (c : tie.After-slice-known2) → allHex (start c .args .line .now) ≡ true
@@ -24,22 +24,22 @@ tested : (c : tie.After-slice-known2) → isFrame (take (length (start c .args .
 tested c = ap isFrame (taken (start c .args .line .now) _ (start c .args .buf .now) (c .before .before .decode .ensures))
 
 returns : tie.Need-returns
-returns c = let a = c .before .before .before .args in unread-odd (a .line .now) (a .buf .now) (λ e. omega arith)
+returns c = let a = c .before .before .before .before .args in unread-odd (a .line .now) (a .buf .now) (λ e. omega arith)
 
 returns-2 : tie.Need-returns-2
-returns-2 c = let a = c .before .before .before .before .args in unread-long (a .line .now) (a .buf .now) (omega arith)
+returns-2 c = let a = c .before .before .before .before .before .args in unread-long (a .line .now) (a .buf .now) (omega arith)
 
 all-hex-requires : tie.Need-all-hex-requires
 all-hex-requires c κs = search needs
 
 returns-3 : tie.Need-returns-3
-returns-3 c = let a = c .before .before .before .before .before .before .args in unread-other (a .line .now) (a .buf .now) (sym (c .before .all-hex .ensures) ∙ not-true _ (c .if3 .taken))
+returns-3 c = let a = c .before .before .before .before .before .before .before .args in unread-other (a .line .now) (a .buf .now) (sym (c .before .all-hex .ensures) ∙ not-true _ (c .if3 .taken))
 
 decode-requires : tie.Need-decode-requires
-decode-requires c κs = let s = c .before .before .before .before .before .before .before in (omega arith, omega (arith, s .pre, c .before .before .before .if2 .left), sym (c .before .before .all-hex .ensures) ∙ not-false _ (c .before .if3 .left))
+decode-requires c κs = let s = c .before .before .before .before .before .before .before .before in (omega arith, omega (arith, s .pre .0, c .before .before .before .if2 .left), sym (c .before .before .all-hex .ensures) ∙ not-false _ (c .before .if3 .left), s .pre .1)
 
 slice-reshare-prefix-well-formed : tie.Need-slice-reshare-prefix-well-formed
-slice-reshare-prefix-well-formed c = omega (arith, c .before .before .decode .kept .1 .1 .0, c .before .before .before .before .before .before .before .before .before .before .pre, c .before .before .before .before .before .before .if2 .left)
+slice-reshare-prefix-well-formed c = omega (arith, c .before .before .decode .kept .1 .1 .0, c .before .before .before .before .before .before .before .before .before .before .before .pre .0, c .before .before .before .before .before .before .if2 .left)
 
 slice-aggregate-well-formed : tie.Need-slice-aggregate-well-formed
 slice-aggregate-well-formed c = sym (length-take-le _ (c .before .before .before .decode .last .1 .1 .0) (slice-reshare-prefix-well-formed (c .before)))

@@ -25,17 +25,12 @@ use Rattle.run.proofs.run.Statement.{statement}
 use Rattle.run.proofs.run.Tie as tie
 
 abbrev Inv-loop : tie.InvT-loop
-Inv-loop ids₀ days₀ used₀ lines out₀ t₀ frame₀ report₀ read₀ written₀ end₀ ids days used out t frame report read written end =
-    (Passed (viewOf t₀ ids₀ days₀ used₀) lines out₀ t ids days used read written out)
-    × (NextIs lines read (length out₀ - written) end)
-    × (length out ≡ length out₀)
-    × (length report ≡ 913)
-    × (length frame ≡ 352)
-    × (Long t)
+Inv-loop ids₀ days₀ used₀ lines out₀ t₀ values frame₀ report₀ read₀ written₀ end₀ ids days used out t frame report read written end =
+    (Passed (viewOf t₀ ids₀ days₀ used₀) lines out₀ t ids days used read written out) × (NextIs lines read (length out₀ - written) end)
+    × (length out ≡ length out₀) × (length report ≡ 913) × (length frame ≡ 352) × (Long t)
 
 abbrev μ-loop : tie.MeasureT-loop
-μ-loop ids₀ days₀ used₀ lines out₀ t₀ frame₀ report₀ read₀ written₀ end₀ ids days used out t frame report read written end =
-    length lines - read
+μ-loop ids₀ days₀ used₀ lines out₀ t₀ values frame₀ report₀ read₀ written₀ end₀ ids days used out t frame report read written end = length lines - read
 
 -- ---- in a turn: the line's end is at or behind its start, and there is room
 
@@ -48,10 +43,10 @@ roomy c = omega (arith, fits _ _ _ _ _ _ _ _ _ _ _ (c .before .loop .inv .0) (c 
 -- ---- the line's frame
 
 abbrev at : tie.After-frame2 Inv-loop μ-loop → tie.In-loop Inv-loop μ-loop
-at f = f .before .before .before .before
+at f = f .before .before .before .before .before
 
 abbrev line : tie.After-frame2 Inv-loop μ-loop → List ℕ
-line f = let v = at f .before .loop in take (v .end - v .read) (drop (v .read) (at f .before .before .before .before .before .args .lines .now))
+line f = let v = at f .before .loop in take (v .end - v .read) (drop (v .read) (at f .before .before .before .before .before .before .args .lines .now))
 
 within : (f : tie.After-frame2 Inv-loop μ-loop) → f .before .unpack .result ≤ length (f .before .unpack .last .1 .0)
 within f = frame-within (line f) _ _ _ (f .before .unpack .ensures)
@@ -136,12 +131,15 @@ went c =
 
 -- ---- the needs
 
+digit-values-requires : tie.Need-digit-values-requires Inv-loop μ-loop
+digit-values-requires c κs = search needs
+
 next-end-requires : tie.Need-next-end-requires Inv-loop μ-loop
 next-end-requires c κs = omega arith
 
 loop-holds : tie.Need-loop-holds Inv-loop μ-loop
 loop-holds c =
-    let s = c .before .before .before in
+    let s = c .before .before .before .before in
     let z : length (s .args .out .now) - 0 ≡ length (s .args .out .now) = omega arith in (
       begin (s .args .lines .now) (s .args .out .now) _ _ _ _ (s .pre),
       rw z (c .next-end .ensures),
@@ -163,8 +161,11 @@ part-unpack-end c = omega (arith, c .loop-test .taken)
 slice-aggregate-unpack : tie.Need-slice-aggregate-unpack Inv-loop μ-loop
 slice-aggregate-unpack c = sym (c .before .before .before .loop .inv .4)
 
+slice-aggregate-unpack-2 : tie.Need-slice-aggregate-unpack-2 Inv-loop μ-loop
+slice-aggregate-unpack-2 c = sym (c .before .before .before .before .before .before .digit-values .ensures .long)
+
 unpack-requires : tie.Need-unpack-requires Inv-loop μ-loop
-unpack-requires c κs = omega (arith, c .before .before .before .loop .inv .4)
+unpack-requires c κs = (omega (arith, c .before .before .before .before .loop .inv .4), c .before .before .before .before .before .before .digit-values .ensures)
 
 array-share-prefix-frame : tie.Need-array-share-prefix-frame Inv-loop μ-loop
 array-share-prefix-frame c = within (c .before)
@@ -266,8 +267,8 @@ own-in-requires : tie.Need-own-in-requires Inv-loop μ-loop
 own-in-requires c κs = let x3 = c .before in let x2 = last3 x3 in let x1 = last2 x2 in let a = accepted (last x1) in
     (a .in-range, own-in-room a (x1 .bank-out .result) (x1 .bank-out .ensures) (x2 .own-out .result) (x2 .own-out .ensures) (x3 .bank-in .result) (x3 .bank-in .ensures))
 
-mul-t52 : tie.Need-mul-t52 Inv-loop μ-loop
-mul-t52 c = omega (arith, sought (sides (last (last2 (last3 (last4 c))))))
+mul-t56 : tie.Need-mul-t56 Inv-loop μ-loop
+mul-t56 c = omega (arith, sought (sides (last (last2 (last3 (last4 c))))))
 
 element-set-from-t-4 : tie.Need-element-set-from-t-4 Inv-loop μ-loop
 element-set-from-t-4 c = omega (arith, sought (sides (last (last2 (last3 (last4 c))))))
@@ -295,7 +296,7 @@ write-line-requires c κs =
     (omega (arith, roomy v, s .fits, v .before .loop .inv .3), small _ _ _ _ _ _ _ _ _ _ s, omega (arith, s .fits, same-report _ _ _ _ _ _ _ _ _ _ s))
 
 add-read : tie.Need-add-read Inv-loop μ-loop
-add-read c = let v = at (c .before .before .before .before .before .before) in omega (arith, v .loop-test .taken, v .before .before .before .before .before .good .1 .1 .1 .1 .0 .0)
+add-read c = let v = at (c .before .before .before .before .before .before) in omega (arith, v .loop-test .taken, v .before .before .before .before .before .before .good .1 .1 .1 .1 .0 .0)
 
 sub-next-end : tie.Need-sub-next-end Inv-loop μ-loop
 sub-next-end c =
@@ -316,7 +317,7 @@ loop-again c =
     let v = at (g .before) in
     let w = c .before .before .before .write-line in
     let p = turn _ _ _ _ _ _ _ _ _ _ _ (v .before .loop .inv .0) (v .before .loop .inv .1) (v .loop-test .taken) _ _ _ _ _ _ _ _ refl (v .before .loop .inv .3) (went g .played) (w .ensures) in
-    let same : length (w .last .0) ≡ length (v .before .before .before .before .before .args .out .now) = w .kept .0 ∙ v .before .loop .inv .2 in (
+    let same : length (w .last .0) ≡ length (v .before .before .before .before .before .before .args .out .now) = w .kept .0 ∙ v .before .loop .inv .2 in (
       p,
       rw same at (c .next-end2 .ensures),
       same,
@@ -343,12 +344,14 @@ run-spec =
     (tie.spec
     Inv-loop
     μ-loop
+    digit-values-requires
     next-end-requires
     loop-holds
     sub-unpack
     part-unpack-start
     part-unpack-end
     slice-aggregate-unpack
+    slice-aggregate-unpack-2
     unpack-requires
     array-share-prefix-frame
     slice-aggregate-transfer-at
@@ -383,7 +386,7 @@ run-spec =
     mul-own-in
     element-copy-out-own-in
     own-in-requires
-    mul-t52
+    mul-t56
     element-set-from-t-4
     array-share-prefix-frame-2
     slice-aggregate-step
