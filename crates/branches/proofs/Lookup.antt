@@ -1,14 +1,15 @@
 -- How marks come about account by account, and what a look-up among them finds. Assumes nothing.
 use mathlib.Core.Path.{_≡_, refl, sym, ap, ap₂, _∙_}
-use mathlib.Core.Bool.{Bool, true, false, not, cond, _&&_, _||_}
+use mathlib.Core.Bool.{Bool, true, false, not, cond, _&&_, _||_, or-assoc}
 use mathlib.Core.List.{List, [], _∷_, _++_, map}
 use Prim.Native.Nat.{ℕ, zero, suc, _+_, _-_, _≤_, _<_}
 use native.Mathlib.Omega.{arith}
 use native.Mathlib.Numerals.{add-one}
 use lib.Dec.{eqb}
 use lib.ListN.{length, take, drop, getD, set, replicate, take-append-drop}
-use lib.Seq.{take-suc, take-all, length-take-le}
+use lib.Seq.{take-suc, take-all, length-take-le, drop-cons}
 use Rattle.rules.specs.Account.{Moment, Account, blank, codes, among, known, at}
+use Rattle.rules.specs.Command.{some?}
 use Rattle.rules.specs.Message.{isBranchOf, later}
 use Rattle.account.specs.declared.Account as Program
 use Rattle.account.specs.View.{toAccount}
@@ -87,3 +88,27 @@ module _ (t : Table) (g : Good t) (sender : ℕ) (m : Moment) (b : Branches) (k 
       ap (λ l. getD l (placeOf c (b .codes)) true) (k .later-are)
       ∙ found (isTimely sender m) true
       ∙ (elim (known c (accountsOf t)) as (λ q. cond q (isTimely sender m (at c (accountsOf t))) true ≡ (not (q && isOwned sender (at c (accountsOf t))) || later ((at c (accountsOf t)) .moment) m)) [ true ↦ refl | false ↦ refl ])
+
+-- ---- whether a mark is set
+
+-- at i, or after it
+pub marked-step : (l : List Bool) (i : ℕ) (a d : Bool) → i < length l → (a || some? (λ b. b) (drop i l)) ≡ ((a || getD l i d) || some? (λ b. b) (drop (i + 1) l))
+unfolding some?
+marked-step l i a d h =
+    ap (λ q. a || some? (λ b. b) q) (drop-cons l i d h ∙ ap (λ n. getD l i d ∷ drop n l) (sym (add-one i)))
+    ∙ sym (or-assoc a (getD l i d) (some? (λ b. b) (drop (i + 1) l)))
+
+some-none : (m : ℕ) → some? (λ b. b) (replicate m false) ≡ false
+unfolding some?
+some-none zero = refl
+some-none (suc m) = some-none m
+
+some-mark : (f : Account → Bool) (m : ℕ) (xs : List Account) → some? (λ b. b) (map f xs ++ replicate m false) ≡ some? f xs
+unfolding some?
+some-mark f m [] = some-none m
+some-mark f m (x ∷ xs) = ap (λ q. f x || q) (some-mark f m xs)
+
+-- where an account is owned by the sender
+pub some-marked : (sender : ℕ) (m : Moment) (t : Table) (b : Branches) → Marked sender m t b → some? (λ o. o) (b .owned) ≡ some? (isOwned sender) (accountsOf t)
+unfolding marks
+some-marked sender m t b k = ap (some? (λ o. o)) (k .owned-are) ∙ some-mark (isOwned sender) (64 - length (accountsOf t)) (accountsOf t)

@@ -1,4 +1,11 @@
 // The accounts of a table as a limit message looks at them, by place: small enough to go by value from item to item.
+ghost use mathlib.Core.Path.{_≡_};
+ghost use Prim.Native.Nat.{ℕ};
+ghost use Rattle.rules.specs.Account.{Moment};
+ghost use Rattle.rules.specs.Command.{some?};
+ghost use Rattle.rules.specs.Message.{ownedBy};
+ghost use Rattle.table.specs.declared.Table as Declared;
+ghost use Rattle.table.specs.View.{accountsOf};
 ghost use Rattle.table.specs.Promise.{Good};
 ghost use Rattle.branches.specs.Marks.{Marked};
 use account::is_later;
@@ -34,4 +41,17 @@ pub fn branches_of(t: Table, sender: u32, day: u32, second: u32) -> Branches
         owned: owned,
         later: later,
     }
+}
+
+// Whether the sender has at least one branch. The pass has no way out, so that the compiler takes several marks at a time.
+pub fn has_branch(b: Branches) -> bool
+    ensures { λ r. ⌜ ((sender : ℕ) (m : Moment) (t : Declared.Table) → Marked sender m t b → r ≡ some? (λ x. ownedBy sender (x .owner)) (accountsOf t)) ⌝ }
+{
+    let mut any = false;
+    let mut i: usize = 0;
+    while i < 64 {
+        any = any | b.owned[i];
+        i += 1;
+    }
+    any
 }

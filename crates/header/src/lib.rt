@@ -1,28 +1,22 @@
 // The checks of kinds 07 and 08: of the header, and of the limits that the message names.
 ghost use mathlib.Core.Path.{_≡_};
-ghost use mathlib.Core.Bool.{_&&_};
-ghost use mathlib.Core.List.{List};
+ghost use mathlib.Core.Bool.{not, _&&_};
+ghost use mathlib.Core.List.{List, [], _∷_};
 ghost use Prim.Native.Nat.{ℕ, _*_, _≤_};
 ghost use lib.ListN.{length};
 ghost use lib.Dec.{leb};
 ghost use Rattle.rules.specs.Command.{isCode};
 ghost use Rattle.rules.specs.Machine.{firstFailure};
-ghost use Rattle.command.specs.View.{toHeader};
-ghost use Rattle.table.specs.Promise.{Good};
-ghost use Rattle.promise.specs.View.{viewOf};
-ghost use Rattle.header.specs.Parts.{headerChecks, namedChecks};
-use account::is_bank;
+ghost use Rattle.rules.specs.Message as Message;
+ghost use Rattle.book.specs.Entries.{entriesOf};
+ghost use Rattle.header.specs.Parts.{namedChecks};
 use book::has_id;
 use command::Header;
 use item_list::Flags;
-use items::has_branch;
 use message::is_current;
 use message::is_message_id;
 use rules::first;
 use rules::is_code;
-use table::Table;
-use table::place;
-use table::slot;
 
 // Whether a header is in range: its id and its day always are.
 pub fn is_header(header: Header) -> bool
@@ -31,32 +25,28 @@ pub fn is_header(header: Header) -> bool
     is_code(header.sender) & (header.second <= 86_399)
 }
 
-// Checks 1, 4, 14, 15, 16 and 17, whatever the days in the book are.
+// Checks 1, 4, 14, 15, 16 and 17, whatever the days in the book are: `head` is whether the sender is a bank that has a branch.
 pub fn header_checks(
     formed: bool,
-    t: Table,
+    known: bool,
+    head: bool,
+    today: u32,
     ids: &[u8],
     used: usize,
     header: Header,
     id: &[u8],
 ) -> u64
-    requires { ⌜ (Good t) × (used * 32 ≤ length (now ids)) × (length (now id) ≡ 32) ⌝ }
-    ensures { λ r. ⌜ ((days : List ℕ) → r ≡ firstFailure (headerChecks formed (toHeader header (now (id .entry))) (viewOf t (now (ids .entry)) days used))) ⌝ }
+    requires { ⌜ (used * 32 ≤ length (now ids)) × (length (now id) ≡ 32) ⌝ }
+    ensures { λ r. ⌜ ((days : List ℕ) → r ≡ firstFailure ((1, formed) ∷ (4, known) ∷ (14, not (Message.inBook (now (id .entry)) (entriesOf (now (ids .entry)) days used))) ∷ (15, head) ∷ (16, Message.isMessageId (now (id .entry))) ∷ (17, Message.isCurrent today (header .day)) ∷ [])) ⌝ }
 {
-    let sender = header.sender;
-    let count = t.count;
-    let i = place(&t.codes, count, sender);
-    let j = slot(i);
-    let x = t.accounts[j];
     let kept = has_id(ids, used, id);
-    let head = is_bank(x) & has_branch(t, sender);
     let right = is_message_id(id);
-    let current = is_current(t.day, header.day);
+    let current = is_current(today, header.day);
     first(
         formed,
         1,
         first(
-            i < count,
+            known,
             4,
             first(
                 !kept,

@@ -1,24 +1,22 @@
 -- What the flags say of a message's checks, and how they come about. Assumes nothing.
 use mathlib.Core.Path.{_≡_, refl, sym, ap, ap₂, _∙_, subst}
-use mathlib.Core.Bool.{Bool, true, false, _&&_, _||_, and-true}
+use mathlib.Core.Bool.{Bool, true, false, _&&_, and-true}
 use mathlib.Core.List.{List, [], _∷_}
-use Prim.Native.Nat.{ℕ, suc, _<_}
+use Prim.Native.Nat.{ℕ, _<_}
 use native.Mathlib.Omega.{arith}
 use lib.Dec.{T, ltb, ltb→lt}
 use lib.ListN.{length, take, drop, getD}
-use lib.Seq.{drop-length, drop-cons}
 use Rattle.rules.specs.Account as Rule
-use Rattle.rules.specs.Account.{blank, known, at}
-use Rattle.rules.specs.Command.{Header, Item, Change, Deletion, every, some?}
+use Rattle.rules.specs.Account.{known, at}
+use Rattle.rules.specs.Command.{Header, Item, Change, Deletion, every}
 use Rattle.rules.specs.Machine.{Machine, hasBookPlace, checks, firstFailure}
-use Rattle.rules.specs.Message.{named, ownedBy, isBranchOf, isLater, isType, limitChecks}
+use Rattle.rules.specs.Message.{named, isBranchOf, isLater, isType, limitChecks}
 use Rattle.account.specs.declared.Account.{Account}
 use Rattle.account.specs.View.{toAccount}
 use Rattle.table.specs.declared.Table.{Table}
 use Rattle.table.specs.Promise.{Good, Slot}
 use Rattle.table.specs.View.{accountsOf, placeOf}
 use Rattle.table.proofs.Found.{place-is, place-known, account-at}
-use Rattle.table.proofs.Places.{accounts-length, accounts-at}
 use Rattle.branches.specs.declared.Branches.{Branches}
 use Rattle.branches.specs.Marks.{Marked}
 use Rattle.branches.proofs.Lookup.{owned-found, later-found}
@@ -70,22 +68,6 @@ module _ (t : Table) (g : Good t) (long : length (t .accounts) ≡ 64) where
       typed-is = r .typed-is;
       owned-is = r .owned-is ∙ own-is (named i) p j e s d h;
     }
-
-  -- ---- the branches of a bank
-
-  module _ (bank i : ℕ) (d : Account) (h : i < t .count) where
-    pub branch-step : some? (λ (x : Rule.Account). ownedBy bank (x .owner)) (drop i (accountsOf t))
-        ≡ (ownedBy bank ((toAccount (getD (t .accounts) i d)) .owner) || some? (λ (x : Rule.Account). ownedBy bank (x .owner)) (drop (suc i) (accountsOf t)))
-    unfolding some?
-    branch-step =
-        ap (some? (λ (x : Rule.Account). ownedBy bank (x .owner))) (drop-cons (accountsOf t) i blank (omega (arith, accounts-length t (g .within) long)))
-        ∙ ap (λ (y : Rule.Account). ownedBy bank (y .owner) || some? (λ (x : Rule.Account). ownedBy bank (x .owner)) (drop (suc i) (accountsOf t))) (accounts-at t (g .within) long i d blank h)
-
-  pub branch-end : (bank : ℕ) → some? (λ (x : Rule.Account). ownedBy bank (x .owner)) (drop (t .count) (accountsOf t)) ≡ false
-  unfolding some?
-  branch-end bank =
-      ap (λ n. some? (λ (x : Rule.Account). ownedBy bank (x .owner)) (drop n (accountsOf t))) (sym (accounts-length t (g .within) long))
-      ∙ ap (some? (λ (x : Rule.Account). ownedBy bank (x .owner))) (drop-length (accountsOf t))
 
 -- ---- all items of a change
 

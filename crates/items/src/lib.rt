@@ -1,25 +1,24 @@
 // The checks of the limits that a change or a deletion names.
-ghost use mathlib.Core.Path.{_≡_};
 ghost use mathlib.Core.List.{List};
 ghost use Prim.Native.Nat.{ℕ, _≤_};
-ghost use Rattle.rules.specs.Command.{some?};
-ghost use Rattle.rules.specs.Message as Message;
+ghost use Rattle.rules.specs.Command as Command;
 ghost use Rattle.command.specs.View.{toHeader, itemsFrom};
 ghost use Rattle.account.specs.View.{toAccount};
+ghost use Rattle.table.specs.declared.Table as Declared;
 ghost use Rattle.table.specs.View.{accountsOf};
 ghost use Rattle.table.specs.Promise.{Good};
+ghost use Rattle.branches.specs.Marks.{Marked};
 ghost use Rattle.items.specs.Items.{Tested, Flagged};
 use account::Account;
 use account::is_later;
 use account::is_owned_by;
-use branches::branches_of;
+use branches::Branches;
 use command::Header;
 use item_list::Flags;
 use item_list::Review;
 use item_list::check_first;
 use item_list::records;
 use message::is_type;
-use table::Table;
 
 // One named limit, which has no value here. Where its code is not known, x is any account.
 pub fn test_limit(x: Account, known: bool, kind: u8, header: Header) -> Flags
@@ -34,19 +33,17 @@ pub fn test_limit(x: Account, known: bool, kind: u8, header: Header) -> Flags
     }
 }
 
-// Each check over all n items of a change.
+// Each check over all n items of a change: b is what its sender and moment find in a table.
 pub fn test_items(
-    t: Table,
+    b: Branches,
     accounts: [u8; 160],
     types: [u8; 16],
     values: [i64; 16],
     n: usize,
-    header: Header,
 ) -> Flags
-    requires { ⌜ (Good t) × (n ≤ 16) ⌝ }
-    ensures { λ r. ⌜ ((id : List ℕ) → Flagged (toHeader header id) (accountsOf t) (itemsFrom 0 n accounts types values) r) ⌝ }
+    requires { ⌜ n ≤ 16 ⌝ }
+    ensures { λ r. ⌜ ((h : Command.Header) (t : Declared.Table) → Good t → Marked (h .sender) (h .moment) t b → Flagged h (accountsOf t) (itemsFrom 0 n accounts types values) r) ⌝ }
 {
-    let branches = branches_of(t, header.sender, header.day, header.second);
     let flags = Flags {
         later: true,
         typed: true,
@@ -54,25 +51,9 @@ pub fn test_items(
         ranged: true,
     };
     let start = Review {
-        branches: branches,
+        branches: b,
         flags: flags,
     };
     let r = check_first(records(accounts, types, values, n), n, start);
     r.flags
-}
-
-// Whether a bank has at least one branch.
-pub fn has_branch(t: Table, bank: u32) -> bool
-    requires { ⌜ Good t ⌝ }
-    ensures { λ r. ⌜ r ≡ some? (λ x. Message.ownedBy bank (x .owner)) (accountsOf t) ⌝ }
-{
-    let n = t.count;
-    let mut i: usize = 0;
-    while i < n {
-        if is_owned_by(t.accounts[i], bank) {
-            return true;
-        }
-        i += 1;
-    }
-    false
 }

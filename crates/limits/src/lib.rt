@@ -4,7 +4,10 @@ ghost use Rattle.octets.specs.Octets.{part};
 ghost use Rattle.rules.specs.Command.{Change, Deletion};
 ghost use Rattle.command.specs.View.{toHeader, itemsFrom};
 ghost use Rattle.promise.specs.Promise.{Sound, Settled};
+use account::is_bank;
 use book::add_id;
+use branches::branches_of;
+use branches::has_branch;
 use changes::delete_limit;
 use changes::set_items;
 use command::Header;
@@ -20,7 +23,8 @@ use table::Table;
 use table::place;
 use table::slot;
 
-// 07. The items are looked at only once the header has passed: then there are at most 16.
+// 07. The items are looked at only once the header has passed: then there are at most 16. What the message finds of the accounts is made once, so
+// that the table is not copied for each check.
 pub fn change(
     t: Table,
     ids: &mut [u8; 32768],
@@ -36,10 +40,17 @@ pub fn change(
     requires { ⌜ Sound t (now ids) (now days) used ⌝ }
     ensures { λ r. ⌜ Settled (Change (toHeader header id) (itemsFrom 0 n accounts types values)) t (now (ids .entry)) (now (days .entry)) used r (now (ids .exit)) (now (days .exit)) ⌝ }
 {
+    let sender = header.sender;
+    let count = t.count;
+    let i = place(&t.codes, count, sender);
+    let j = slot(i);
+    let x = t.accounts[j];
+    let b = branches_of(t, sender, header.day, header.second);
+    let head = is_bank(x) & has_branch(b);
     let formed = is_header(header) & is_count(n);
-    let mut a = header_checks(formed, t, ids, used, header, &id);
+    let mut a = header_checks(formed, i < count, head, t.day, ids, used, header, &id);
     if a == 0 {
-        let f = test_items(t, accounts, types, values, n, header);
+        let f = test_items(b, accounts, types, values, n);
         a = named_checks(f, used);
     }
     if a != 0 {
@@ -73,14 +84,21 @@ pub fn deletion(
     requires { ⌜ Sound t (now ids) (now days) used ⌝ }
     ensures { λ r. ⌜ Settled (Deletion (toHeader header id) (part 0 10 accounts) kind) t (now (ids .entry)) (now (days .entry)) used r (now (ids .exit)) (now (days .exit)) ⌝ }
 {
+    let sender = header.sender;
     let count = t.count;
-    let code = named(&accounts, 0);
-    let i = place(&t.codes, count, code);
+    let i = place(&t.codes, count, sender);
     let j = slot(i);
     let x = t.accounts[j];
-    let mut a = header_checks(is_header(header), t, ids, used, header, &id);
+    let b = branches_of(t, sender, header.day, header.second);
+    let head = is_bank(x) & has_branch(b);
+    let formed = is_header(header);
+    let mut a = header_checks(formed, i < count, head, t.day, ids, used, header, &id);
+    let code = named(&accounts, 0);
     if a == 0 {
-        a = named_checks(test_limit(x, i < count, kind, header), used);
+        let p = place(&t.codes, count, code);
+        let q = slot(p);
+        let y = t.accounts[q];
+        a = named_checks(test_limit(y, p < count, kind, header), used);
     }
     if a != 0 {
         return Noted {

@@ -1,6 +1,6 @@
 -- Kind 07 as a whole call. Assumes nothing.
 use borrow.Author.Needs.{needs}
-use mathlib.Core.Path.{_≡_, refl, sym, ap₂, _∙_, subst}
+use mathlib.Core.Path.{_≡_, refl, sym, ap₂, _∙_}
 use mathlib.Core.Bool.{_&&_}
 use mathlib.Core.Logic.{⊎-elim}
 use mathlib.Core.List.{List}
@@ -22,10 +22,11 @@ use Rattle.command.specs.View.{toHeader, itemsFrom}
 use Rattle.command.proofs.Forms.{bytes-fit, amount-fits, change-formed, count-most, items-length, items-fit}
 use Rattle.table.specs.View.{accountsOf}
 use Rattle.table.specs.Promise.{Good}
+use Rattle.table.proofs.Places.{length-mapped}
 use Rattle.promise.specs.View.{viewOf, lent}
 use Rattle.promise.proofs.Laws.{good-table, settled-no}
 use Rattle.header.specs.Parts.{headerChecks}
-use Rattle.header.proofs.Parts.{change-rest}
+use Rattle.header.proofs.Parts.{header-answer, change-rest}
 use Rattle.limits.proofs.Calls.{header-fails, header-passes, room, taken}
 use Rattle.limits.proofs.change.Statement.{statement}
 use Rattle.limits.proofs.change.Tie as tie
@@ -40,13 +41,16 @@ abbrev asked : tie.Start → Command
 asked s = Change (of s) (items s)
 
 abbrev view : tie.Start → Machine
-view s = viewOf (s .args .t) (s .args .ids .now) (s .args .days .now) (s .args .used)
+view s = viewOf (s .args .t1) (s .args .ids .now) (s .args .days .now) (s .args .used)
 
-good : (s : tie.Start) → Good (s .args .t)
-good s = good-table (s .args .t) (s .args .ids .now) (s .args .days .now) (s .args .used) (s .pre)
+good : (s : tie.Start) → Good (s .args .t1)
+good s = good-table (s .args .t1) (s .args .ids .now) (s .args .days .now) (s .args .used) (s .pre)
 
 id-long : (s : tie.Start) → length (s .args .t6) ≡ 32
 id-long s = search needs
+
+long : (s : tie.Start) → length (s .args .t1 .accounts) ≡ 64
+long s = search (needs, length-mapped)
 
 formed : (s : tie.Start) → wellFormed (asked s) ≡ ((isCode (s .args .header .sender) && leb (s .args .header .second) 86399) && isCount (s .args .n))
 formed s =
@@ -64,20 +68,25 @@ formed s =
 few : (s : tie.Start) → T (wellFormed (asked s)) → s .args .n ≤ 16
 few s w = count-most (s .args .header) (s .args .n) (sym (formed s) ∙ is-true (wellFormed (asked s)) w)
 
-tested : (c : tie.After-is-count) → (c .before .is-header .result && c .is-count .result) ≡ wellFormed (asked (c .before .before))
-tested c = ap₂ _&&_ (c .before .is-header .ensures) (c .is-count .ensures) ∙ sym (formed (c .before .before))
-
 abbrev entry : tie.After-header-checks → tie.Start
-entry c = c .before .before .before .before .before .before
+entry c = c .before .before .before .before .before .before .before .before .before .before .before .before .before .before
+
+tested : (c : tie.After-header-checks) → (c .before .before .before .before .before .is-header .result && c .before .before .before .before .is-count .result) ≡ wellFormed (asked (entry c))
+tested c = ap₂ _&&_ (c .before .before .before .before .before .is-header .ensures) (c .before .before .before .before .is-count .ensures) ∙ sym (formed (entry c))
 
 -- what the header's checks answered
 header-is : (c : tie.After-header-checks) → c .header-checks .result ≡ firstFailure (headerChecks (wellFormed (asked (entry c))) (of (entry c)) (view (entry c)))
 header-is c =
     let s = entry c in
-    subst (λ b. c .header-checks .result ≡ firstFailure (headerChecks b (of s) (view s))) (tested (c .before .before .before .before)) (c .header-checks .ensures (s .args .days .now))
+    let k = c .before .before .before .before .before .before in
+    let i = k .before .before .before .before .before .place in
+    let j = k .before .before .before .before .slot in
+    header-answer (s .args .t1) (good s) (long s) (s .args .header) (i .result) (j .result) (i .ensures) (j .ensures) _ _ _ (k .before .is-bank .ensures)
+    (k .has-branch .ensures _ _ (s .args .t1) (k .before .before .branches-of .ensures)) (s .args .t6) (s .args .ids .now) (s .args .days .now) (s .args .used) _ _ (tested c)
+    _ (c .header-checks .ensures (s .args .days .now))
 
 answered : (c : tie.Joined1) → c .if1 .a ≡ answer (view (entry (c .before))) (lent 0 (asked (entry (c .before))))
-unfolding checks headerChecks
+unfolding checks headerChecks toHeader
 answered c =
     let s = entry (c .before) in
     let f = wellFormed (asked s) in
@@ -85,9 +94,9 @@ answered c =
     ⊎-elim
     (λ w.
     w .3
-    ∙ header-passes (asked s) (of s) (s .args .t) (s .args .ids .now) (s .args .days .now) (s .args .used) f refl (c .before .header-checks .result) e (w .0 .taken) (w .2 .result)
-    (w .2 .ensures ∙ change-rest (s .args .t) (s .args .ids .now) (s .args .days .now) (s .args .used) (of s) (w .1 .result) (items s) (w .1 .ensures (s .args .t6))))
-    (λ w. w .1 ∙ header-fails (asked s) (of s) (s .args .t) (s .args .ids .now) (s .args .days .now) (s .args .used) f refl (c .before .header-checks .result) e (w .0 .left))
+    ∙ header-passes (asked s) (of s) (s .args .t1) (s .args .ids .now) (s .args .days .now) (s .args .used) f refl (c .before .header-checks .result) e (w .0 .taken) (w .2 .result)
+    (w .2 .ensures ∙ change-rest (s .args .t1) (s .args .ids .now) (s .args .days .now) (s .args .used) (of s) (w .1 .result) (items s) (w .1 .ensures (of s) (s .args .t1) (good s) (c .before .before .before .before .before .before .before .before .before .branches-of .ensures))))
+    (λ w. w .1 ∙ header-fails (asked s) (of s) (s .args .t1) (s .args .ids .now) (s .args .days .now) (s .args .used) f refl (c .before .header-checks .result) e (w .0 .left))
     (c .if1 .came)
 
 accepted : (c : tie.Else2) → answer (view (entry (c .before .before))) (lent 0 (asked (entry (c .before .before)))) ≡ 0
@@ -97,7 +106,28 @@ placed : (c : tie.Else2) → entry (c .before .before) .args .used < 1024
 unfolding answer checks limitChecks
 placed c =
     let s = entry (c .before .before) in
-    room (asked s) (of s) (s .args .t) (s .args .ids .now) (s .args .days .now) (s .args .used) (passed 22 (checks (view s) 0 (asked s)) tt (accepted c))
+    room (asked s) (of s) (s .args .t1) (s .args .ids .now) (s .args .days .now) (s .args .used) (passed 22 (checks (view s) 0 (asked s)) tt (accepted c))
+
+place-requires : tie.Need-place-requires
+place-requires c κs = search needs
+
+slot-requires : tie.Need-slot-requires
+slot-requires c κs = search needs
+
+mul-x : tie.Need-mul-x
+mul-x c = search needs
+
+element-copy-out-x : tie.Need-element-copy-out-x
+element-copy-out-x c = search needs
+
+branches-of-requires : tie.Need-branches-of-requires
+branches-of-requires c κs = good (c .before .before .before .before .before)
+
+is-bank-requires : tie.Need-is-bank-requires
+is-bank-requires c κs = search needs
+
+has-branch-requires : tie.Need-has-branch-requires
+has-branch-requires c κs = search needs
 
 is-header-requires : tie.Need-is-header-requires
 is-header-requires c κs = search needs
@@ -106,20 +136,18 @@ is-count-requires : tie.Need-is-count-requires
 is-count-requires c κs = search needs
 
 slice-aggregate-header-checks : tie.Need-slice-aggregate-header-checks
-slice-aggregate-header-checks c = search needs
+slice-aggregate-header-checks c = sym (id-long (c .before .before .before .before .before .before .before .before .before .before .before .before .before))
 
 header-checks-requires : tie.Need-header-checks-requires
 header-checks-requires c κs =
-    let s = c .before .before .before .before .before in
-    (good s, omega (arith, s .pre .few, s .pre .lengths .ids-long), id-long s)
+    let s = c .before .before .before .before .before .before .before .before .before .before .before .before .before in
+    (omega (arith, s .pre .few, s .pre .lengths .ids-long), id-long s)
 
 test-items-requires : tie.Need-test-items-requires
 unfolding headerChecks
 test-items-requires c κs =
-    let s = entry (c .before) in (
-      good s,
-      few s (passed 1 (headerChecks (wellFormed (asked s)) (of s) (view s)) tt (sym (header-is (c .before)) ∙ c .if1 .taken)),
-    )
+    let s = entry (c .before) in
+    few s (passed 1 (headerChecks (wellFormed (asked s)) (of s) (view s)) tt (sym (header-is (c .before)) ∙ c .if1 .taken))
 
 named-checks-requires : tie.Need-named-checks-requires
 named-checks-requires c κs = search needs
@@ -127,7 +155,7 @@ named-checks-requires c κs = search needs
 returns : tie.Need-returns
 returns c =
     let s = entry (c .before .before) in
-    settled-no (asked s) (s .args .t) (s .args .ids .now) (s .args .days .now) (s .args .used) (s .pre) (c .before .if1 .a) (answered (c .before)) (c .if2 .taken)
+    settled-no (asked s) (s .args .t1) (s .args .ids .now) (s .args .days .now) (s .args .used) (s .pre) (c .before .if1 .a) (answered (c .before)) (c .if2 .taken)
 
 set-items-requires : tie.Need-set-items-requires
 unfolding answer checks limitChecks
@@ -151,13 +179,20 @@ unfolding toHeader effect viewOf
 returns-2 c =
     let s = entry (c .before .before .before .before .before .before .before) in
     let u = c .before .before .before .before .set-items in
-    taken (asked s) (of s) (s .args .t) (s .args .ids .now) (s .args .days .now) (s .args .used) (s .pre) (u .result) (setItems (of s) (items s) (accountsOf (s .args .t))) _ _
+    taken (asked s) (of s) (s .args .t1) (s .args .ids .now) (s .args .days .now) (s .args .used) (s .pre) (u .result) (setItems (of s) (items s) (accountsOf (s .args .t1))) _ _
     (accepted (c .before .before .before .before .before)) (placed (c .before .before .before .before .before)) (u .ensures (s .args .t6)) (c .add-id .ensures) refl
 
 pub change-spec : {M : Type 1} → statement M
 change-spec =
     tie.close
     (tie.spec
+    place-requires
+    slot-requires
+    mul-x
+    element-copy-out-x
+    branches-of-requires
+    is-bank-requires
+    has-branch-requires
     is-header-requires
     is-count-requires
     slice-aggregate-header-checks

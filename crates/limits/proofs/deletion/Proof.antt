@@ -26,7 +26,7 @@ use Rattle.items.proofs.Laws.{limit-tested}
 use Rattle.promise.specs.View.{viewOf, lent}
 use Rattle.promise.proofs.Laws.{good-table, settled-no}
 use Rattle.header.specs.Parts.{headerChecks}
-use Rattle.header.proofs.Parts.{deletion-rest}
+use Rattle.header.proofs.Parts.{header-answer, deletion-rest}
 use Rattle.limits.proofs.Calls.{header-fails, header-passes, room, taken}
 use Rattle.limits.proofs.deletion.Statement.{statement}
 use Rattle.limits.proofs.deletion.Tie as tie
@@ -52,57 +52,60 @@ id-long s = search needs
 long : (s : tie.Start) → length (s .args .t1 .accounts) ≡ 64
 long s = search (needs, length-mapped)
 
+codes-long : (s : tie.Start) → length (s .args .t1 .codes) ≡ 64
+codes-long s = search needs
+
+ids-long : (s : tie.Start) → length (s .args .t7) ≡ 160
+ids-long s = search needs
+
 formed : (s : tie.Start) → wellFormed (asked s) ≡ (isCode (s .args .header .sender) && leb (s .args .header .second) 86399)
 formed s =
     let d : Fits w32 (s .args .header .day) = search needs in
     let k : Fits w8 (s .args .kind) = search needs in
-    let l : length (s .args .t7) ≡ 160 = search needs in
     deletion-formed (s .args .header) (s .args .t6) (is-bytes 32 (s .args .t6) (id-long s) (bytes-fit (s .args .t6) (λ k. search needs))) (d .fits)
-    (s .args .t7) (s .args .kind) (bytes-fit (s .args .t7) (λ k. search needs)) (omega arith) (k .fits)
+    (s .args .t7) (s .args .kind) (bytes-fit (s .args .t7) (λ k. search needs)) (omega (arith, ids-long s)) (k .fits)
 
 abbrev entry : tie.After-header-checks → tie.Start
-entry c = c .before .before .before .before .before .before .before .before .before .before .before .before
+entry c = c .before .before .before .before .before .before .before .before .before .before .before .before .before
 
 -- what the header's checks answered
 header-is : (c : tie.After-header-checks) → c .header-checks .result ≡ firstFailure (headerChecks (wellFormed (asked (entry c))) (of (entry c)) (view (entry c)))
 header-is c =
     let s = entry c in
-    subst (λ b. c .header-checks .result ≡ firstFailure (headerChecks b (of s) (view s))) (c .before .before .before .before .is-header .ensures ∙ sym (formed s))
-    (c .header-checks .ensures (s .args .days .now))
+    let k = c .before .before .before .before .before in
+    let i = k .before .before .before .before .before .place in
+    let j = k .before .before .before .before .slot in
+    header-answer (s .args .t1) (good s) (long s) (s .args .header) (i .result) (j .result) (i .ensures) (j .ensures) _ _ _ (k .before .is-bank .ensures)
+    (k .has-branch .ensures _ _ (s .args .t1) (k .before .before .branches-of .ensures)) (s .args .t6) (s .args .ids .now) (s .args .days .now) (s .args .used) _ _ (c .before .before .before .before .is-header .ensures ∙ sym (formed s))
+    _ (c .header-checks .ensures (s .args .days .now))
 
-answered : (c : tie.Joined1) → c .if1 .a ≡ answer (view (entry (c .before))) (lent 0 (asked (entry (c .before))))
+answered : (c : tie.Joined1) → c .if1 .a ≡ answer (view (entry (c .before .before .before))) (lent 0 (asked (entry (c .before .before .before))))
 unfolding checks headerChecks
 answered c =
-    let s = entry (c .before) in
+    let k = c .before .before .before in
+    let s = entry k in
     let f = wellFormed (asked s) in
-    let e = header-is (c .before) in
-    let i = c .before .before .before .before .before .before .before .before .place in
-    let j = c .before .before .before .before .before .before .before .slot in
-    let p : i .result ≡ placeOf (named (account s)) (take (s .args .t1 .count) (s .args .t1 .codes)) = i .ensures ∙ ap (λ n. placeOf n (take (s .args .t1 .count) (s .args .t1 .codes))) (c .before .before .before .before .before .before .before .before .before .before .before .named .ensures) in
+    let e = header-is k in
     ⊎-elim
     (λ w.
-    w .3
-    ∙ header-passes (asked s) (of s) (s .args .t1) (s .args .ids .now) (s .args .days .now) (s .args .used) f refl (c .before .header-checks .result) e (w .0 .taken) (w .2 .result)
-    (w .2 .ensures ∙ deletion-rest (s .args .t1) (s .args .ids .now) (s .args .days .now) (s .args .used) (of s) (w .1 .result) (account s) (s .args .kind)
-    (limit-tested (s .args .t1) (good s) (long s) (account s) (i .result) (j .result) p (j .ensures) _ (of s) (s .args .kind) (w .1 .result) (w .1 .ensures (s .args .t6)))
-    (w .1 .ensures (s .args .t6) .ranged-is)))
-    (λ w. w .1 ∙ header-fails (asked s) (of s) (s .args .t1) (s .args .ids .now) (s .args .days .now) (s .args .used) f refl (c .before .header-checks .result) e (w .0 .left))
+    let i = w .3 in
+    let p : i .result ≡ placeOf (named (account s)) (take (s .args .t1 .count) (s .args .t1 .codes)) = i .ensures ∙ ap (λ n. placeOf n (take (s .args .t1 .count) (s .args .t1 .codes))) (c .before .named .ensures) in
+    w .8
+    ∙ header-passes (asked s) (of s) (s .args .t1) (s .args .ids .now) (s .args .days .now) (s .args .used) f refl (k .header-checks .result) e (w .0 .taken) (w .7 .result)
+    (w .7 .ensures ∙ deletion-rest (s .args .t1) (s .args .ids .now) (s .args .days .now) (s .args .used) (of s) (w .6 .result) (account s) (s .args .kind)
+    (limit-tested (s .args .t1) (good s) (long s) (account s) (i .result) (w .4 .result) p (w .4 .ensures) _ (of s) (s .args .kind) (w .6 .result) (w .6 .ensures (s .args .t6)))
+    (w .6 .ensures (s .args .t6) .ranged-is)))
+    (λ w. w .1 ∙ header-fails (asked s) (of s) (s .args .t1) (s .args .ids .now) (s .args .days .now) (s .args .used) f refl (k .header-checks .result) e (w .0 .left))
     (c .if1 .came)
 
-accepted : (c : tie.Else2) → answer (view (entry (c .before .before))) (lent 0 (asked (entry (c .before .before)))) ≡ 0
+accepted : (c : tie.Else2) → answer (view (entry (c .before .before .before .before))) (lent 0 (asked (entry (c .before .before .before .before)))) ≡ 0
 accepted c = sym (answered (c .before)) ∙ c .if2 .left
 
-placed : (c : tie.Else2) → entry (c .before .before) .args .used < 1024
+placed : (c : tie.Else2) → entry (c .before .before .before .before) .args .used < 1024
 unfolding answer checks limitChecks
 placed c =
-    let s = entry (c .before .before) in
+    let s = entry (c .before .before .before .before) in
     room (asked s) (of s) (s .args .t1) (s .args .ids .now) (s .args .days .now) (s .args .used) (passed 22 (checks (view s) 0 (asked s)) tt (accepted c))
-
-slice-aggregate-named : tie.Need-slice-aggregate-named
-slice-aggregate-named c = search needs
-
-named-requires : tie.Need-named-requires
-named-requires c κs = search needs
 
 place-requires : tie.Need-place-requires
 place-requires c κs = search needs
@@ -116,16 +119,43 @@ mul-x c = search needs
 element-copy-out-x : tie.Need-element-copy-out-x
 element-copy-out-x c = search needs
 
+branches-of-requires : tie.Need-branches-of-requires
+branches-of-requires c κs = good (c .before .before .before .before .before)
+
+is-bank-requires : tie.Need-is-bank-requires
+is-bank-requires c κs = search needs
+
+has-branch-requires : tie.Need-has-branch-requires
+has-branch-requires c κs = search needs
+
 is-header-requires : tie.Need-is-header-requires
 is-header-requires c κs = search needs
 
 slice-aggregate-header-checks : tie.Need-slice-aggregate-header-checks
-slice-aggregate-header-checks c = search needs
+slice-aggregate-header-checks c = sym (id-long (c .before .before .before .before .before .before .before .before .before .before .before .before))
 
 header-checks-requires : tie.Need-header-checks-requires
 header-checks-requires c κs =
-    let s = c .before .before .before .before .before .before .before .before .before .before .before in
-    (good s, omega (arith, s .pre .few, s .pre .lengths .ids-long), id-long s)
+    let s = c .before .before .before .before .before .before .before .before .before .before .before .before in
+    (omega (arith, s .pre .few, s .pre .lengths .ids-long), id-long s)
+
+slice-aggregate-named : tie.Need-slice-aggregate-named
+slice-aggregate-named c = sym (ids-long (c .before .before .before .before .before .before .before .before .before .before .before .before .before .before))
+
+named-requires : tie.Need-named-requires
+named-requires c κs = omega (arith, ids-long (c .before .before .before .before .before .before .before .before .before .before .before .before .before .before))
+
+place-requires-2 : tie.Need-place-requires-2
+place-requires-2 c κs = let s = c .before .before .before .before .before .before .before .before .before .before .before .before .before .before .before .before .before .before in (good s .within, codes-long s)
+
+slot-requires-2 : tie.Need-slot-requires-2
+slot-requires-2 c κs = search needs
+
+mul-y : tie.Need-mul-y
+mul-y c = search needs
+
+element-copy-out-y : tie.Need-element-copy-out-y
+element-copy-out-y c = search needs
 
 test-limit-requires : tie.Need-test-limit-requires
 test-limit-requires c κs = search needs
@@ -135,18 +165,18 @@ named-checks-requires c κs = search needs
 
 returns : tie.Need-returns
 returns c =
-    let s = entry (c .before .before) in
+    let s = entry (c .before .before .before .before) in
     settled-no (asked s) (s .args .t1) (s .args .ids .now) (s .args .days .now) (s .args .used) (s .pre) (c .before .if1 .a) (answered (c .before)) (c .if2 .taken)
 
 delete-limit-requires : tie.Need-delete-limit-requires
-delete-limit-requires c κs = good (entry (c .before .before))
+delete-limit-requires c κs = good (entry (c .before .before .before .before))
 
 slice-aggregate-add-id : tie.Need-slice-aggregate-add-id
-slice-aggregate-add-id c = sym (id-long (entry (c .before .before .before .before .before .before)))
+slice-aggregate-add-id c = sym (id-long (entry (c .before .before .before .before .before .before .before .before)))
 
 add-id-requires : tie.Need-add-id-requires
 add-id-requires c κs =
-    let s = entry (c .before .before .before .before .before .before) in
+    let s = entry (c .before .before .before .before .before .before .before .before) in
     (placed (c .before .before .before .before), s .pre .lengths, id-long s)
 
 add-more : tie.Need-add-more
@@ -155,11 +185,11 @@ add-more c = omega (arith, placed (c .before .before .before .before .before))
 returns-2 : tie.Need-returns-2
 unfolding toHeader effect viewOf
 returns-2 c =
-    let s = entry (c .before .before .before .before .before .before .before) in
+    let s = entry (c .before .before .before .before .before .before .before .before .before) in
     let u = c .before .before .before .before .delete-limit in
     let f = touch (of s) (s .args .kind) cleared in
     let p : Holds (s .args .t1) (u .result) (adjust (named (account s)) f (accountsOf (s .args .t1))) =
-    subst (λ n. Holds (s .args .t1) (u .result) (adjust n f (accountsOf (s .args .t1)))) (c .before .before .before .before .before .before .before .before .before .before .before .before .before .before .before .before .before .named .ensures) (u .ensures (s .args .t6)) in
+    subst (λ n. Holds (s .args .t1) (u .result) (adjust n f (accountsOf (s .args .t1)))) (c .before .before .before .before .before .before .before .named .ensures) (u .ensures (s .args .t6)) in
     taken (asked s) (of s) (s .args .t1) (s .args .ids .now) (s .args .days .now) (s .args .used) (s .pre) (u .result) (adjust (named (account s)) f (accountsOf (s .args .t1))) _ _
     (accepted (c .before .before .before .before .before)) (placed (c .before .before .before .before .before)) p (c .add-id .ensures) refl
 
@@ -167,15 +197,22 @@ pub deletion-spec : {M : Type 1} → statement M
 deletion-spec =
     tie.close
     (tie.spec
-    slice-aggregate-named
-    named-requires
     place-requires
     slot-requires
     mul-x
     element-copy-out-x
+    branches-of-requires
+    is-bank-requires
+    has-branch-requires
     is-header-requires
     slice-aggregate-header-checks
     header-checks-requires
+    slice-aggregate-named
+    named-requires
+    place-requires-2
+    slot-requires-2
+    mul-y
+    element-copy-out-y
     test-limit-requires
     named-checks-requires
     returns
