@@ -1,12 +1,13 @@
 -- One turn of the loop: the frame that a line is, and what a payment or any other command leaves behind. Assumes nothing.
 use mathlib.Core.Path.{_≡_, refl, sym, ap, _∙_}
-use mathlib.Core.Bool.{Bool, true, false, cond, _&&_}
+use mathlib.Core.Bool.{Bool, true, false, not, cond, _&&_}
 use mathlib.Core.List.{List, [], _∷_}
 use Prim.Native.Nat.{ℕ, _%_, _≤_, _<_}
 use native.Mathlib.Omega.{arith}
 use lib.Dec.{eqb}
-use lib.ListN.{length, take, length-take}
-use lib.Seq.{length-take-le}
+use lib.ListN.{length, take, getD, length-take}
+use lib.Seq.{length-take-le, getD-take}
+use borrow.Author.Tests.{eqb-true, eqb-false, not-true}
 use Rattle.frame.specs.Hex.{allHex, unhex}
 use Rattle.frame.specs.Frame.{isFrame, commandsOf, lineFrame}
 use Rattle.reader.specs.Unpacked.{Unpacked}
@@ -38,8 +39,18 @@ module _ (line buf buf′ : List ℕ) (n : ℕ) (f : Unpacked line buf buf′ n)
   pub frame-long : length (take n buf′) ≡ n
   frame-long = length-take-le n buf′ frame-within
 
+  some-formed : 0 < n → isFrame (take n buf′) ≡ true
+  some-formed h = ap isFrame (f .frame-is) ∙ line-formed line (omega (arith, f .length-is, h))
+
   pub frame-formed : n ≡ 22 → (isFrame (take n buf′) ≡ true) × (length (take n buf′) ≡ 22)
-  frame-formed e = (ap isFrame (f .frame-is) ∙ line-formed line (omega (arith, f .length-is)), frame-long ∙ e)
+  frame-formed e = (some-formed (omega (arith, e)), frame-long ∙ e)
+
+  -- of kind 09
+  pub query-formed : (not (eqb n 0) && eqb (getD buf′ 0 0) 9) ≡ true → (isFrame (take n buf′) ≡ true) × (getD (take n buf′) 0 0 ≡ 9)
+  query-formed e =
+      let h = both (not (eqb n 0)) (eqb (getD buf′ 0 0) 9) e in
+      let some : 0 < n = omega (arith, eqb-false n 0 (not-true (eqb n 0) (h .0))) in
+      (some-formed some, getD-take n buf′ 0 0 some ∙ eqb-true (getD buf′ 0 0) 9 (h .1))
 
 -- ---- what a turn leaves behind
 

@@ -3,6 +3,7 @@ ghost use Prim.Native.Nat.{_≤_};
 ghost use lib.ListN.{length};
 ghost use Rattle.promise.specs.Promise.{Sound};
 ghost use Rattle.run.specs.Run.{NextIs, RanIs};
+use asking::ask;
 use payment::bank_in;
 use payment::bank_out;
 use payment::bank_slot;
@@ -73,6 +74,11 @@ pub fn run(
                 t.accounts[l] = bank_in(t.accounts[l], p);
                 t.accounts[j] = own_in(t.accounts[j], p);
             }
+        } else if (n != 0) & (frame[0] == 9) {
+            let q = ask(t, ids, days, used, &frame[..n], &mut report);
+            used = q.used;
+            answer = q.answer;
+            length = q.report_len;
         } else {
             let s = step::step(t, ids, days, used, &frame[..n], &mut report);
             t = s.table;

@@ -20,7 +20,7 @@ use Rattle.promise.specs.Promise.{Sound}
 use Rattle.promise.proofs.Laws.{good-table}
 use Rattle.run.specs.Run.{NextIs, Passed}
 use Rattle.run.proofs.Laws.{small, same-report, begin, turn, forward, fits, all-chosen}
-use Rattle.run.proofs.Turns.{frame-within, frame-long, frame-formed, Long, Turned, turned, paid}
+use Rattle.run.proofs.Turns.{frame-within, frame-long, frame-formed, query-formed, Long, Turned, turned, paid}
 use Rattle.run.proofs.run.Statement.{statement}
 use Rattle.run.proofs.run.Tie as tie
 
@@ -104,7 +104,7 @@ last3 c = c .before .before
 abbrev last4 : tie.After-own-in Inv-loop μ-loop → tie.After-bank-in Inv-loop μ-loop
 last4 c = c .before .before
 
--- ---- what the turn left behind: of a payment accepted, of one refused, of any other frame or none
+-- ---- what the turn left behind: of a payment accepted, of one refused, of a query, of any other frame or none
 
 went : (c : tie.Joined1 Inv-loop μ-loop) → let f = c .before in let v = at f .before .loop in
     Turned (line f) (v .t) (v .ids) (v .days) (v .used) (v .report) (c .if1 .t) (c .if1 .answer) (c .if1 .used) (c .if1 .length) (c .if1 .ids) (c .if1 .days) (c .if1 .report)
@@ -124,9 +124,11 @@ went c =
     turned (line f) (v .t) (v .ids) (v .days) (v .used) (v .report)
     (paid (line f) (v .t) (v .ids) (v .days) (v .used) (v .report) (sound f) (w .2 .result) (rw (is f) at (w .2 .ensures)) _ (refused (v .t) (good f) (long f) q (w .16 .result) (w .16 .ensures) (w .17 .left)))
     (v .inv .5) _ _ _ _ _ _ _ (w .18) (w .19) (w .20) (w .21) (w .22) (w .23) (w .24))
+    (⊎-elim
+    (λ w. turned (line f) (v .t) (v .ids) (v .days) (v .used) (v .report) (rw (is f) at (w .6 .ensures)) (v .inv .5) _ _ _ _ _ _ _ (w .8) (w .9) (w .10) (w .11) (w .12) (w .13) (w .14))
     (λ w.
-    turned (line f) (v .t) (v .ids) (v .days) (v .used) (v .report) (rw (is f) at (w .5 .ensures))
-    (record { codes-long = search (needs, w .5 .ok .1 .1 .1 .0 .1 .1 .0 .1); accounts-long = search (needs, length-mapped, w .5 .ok .1 .1 .1 .0 .1 .1 .1 .0 .1) }) _ _ _ _ _ _ _ (w .8) (w .9) (w .10) (w .11) (w .12) (w .13) (w .14)))
+    turned (line f) (v .t) (v .ids) (v .days) (v .used) (v .report) (rw (is f) at (w .6 .ensures))
+    (record { codes-long = search (needs, w .6 .ok .1 .1 .1 .0 .1 .1 .0 .1); accounts-long = search (needs, length-mapped, w .6 .ok .1 .1 .1 .0 .1 .1 .1 .0 .1) }) _ _ _ _ _ _ _ (w .9) (w .10) (w .11) (w .12) (w .13) (w .14) (w .15))))
     (c .if1 .came)
 
 -- ---- the needs
@@ -267,23 +269,39 @@ own-in-requires : tie.Need-own-in-requires Inv-loop μ-loop
 own-in-requires c κs = let x3 = c .before in let x2 = last3 x3 in let x1 = last2 x2 in let a = accepted (last x1) in
     (a .in-range, own-in-room a (x1 .bank-out .result) (x1 .bank-out .ensures) (x2 .own-out .result) (x2 .own-out .ensures) (x3 .bank-in .result) (x3 .bank-in .ensures))
 
-mul-t56 : tie.Need-mul-t56 Inv-loop μ-loop
-mul-t56 c = omega (arith, sought (sides (last (last2 (last3 (last4 c))))))
+mul-t57 : tie.Need-mul-t57 Inv-loop μ-loop
+mul-t57 c = omega (arith, sought (sides (last (last2 (last3 (last4 c))))))
 
 element-set-from-t-4 : tie.Need-element-set-from-t-4 Inv-loop μ-loop
 element-set-from-t-4 c = omega (arith, sought (sides (last (last2 (last3 (last4 c))))))
 
+array-read-if3 : tie.Need-array-read-if3 Inv-loop μ-loop
+array-read-if3 c = omega arith
+
 array-share-prefix-frame-2 : tie.Need-array-share-prefix-frame-2 Inv-loop μ-loop
-array-share-prefix-frame-2 c = within (c .before .before .before)
+array-share-prefix-frame-2 c = within (c .before .before .before .before)
+
+slice-aggregate-ask : tie.Need-slice-aggregate-ask Inv-loop μ-loop
+slice-aggregate-ask c = let f = c .before .before .before .before .before in sym (frame-long (line f) _ _ _ (f .before .unpack .ensures))
+
+slice-aggregate-ask-2 : tie.Need-slice-aggregate-ask-2 Inv-loop μ-loop
+slice-aggregate-ask-2 c = sym (at (c .before .before .before .before .before .before) .before .loop .inv .3)
+
+ask-requires : tie.Need-ask-requires Inv-loop μ-loop
+ask-requires c κs = let b = c .before .before .before .before in let f = b .before .before in
+    let q = query-formed (line f) _ _ _ (f .before .unpack .ensures) (b .if3 .taken) in (q .0, q .1, sound f)
+
+array-share-prefix-frame-3 : tie.Need-array-share-prefix-frame-3 Inv-loop μ-loop
+array-share-prefix-frame-3 c = within (c .before .before .before .before)
 
 slice-aggregate-step : tie.Need-slice-aggregate-step Inv-loop μ-loop
-slice-aggregate-step c = let f = c .before .before .before .before in sym (frame-long (line f) _ _ _ (f .before .unpack .ensures))
+slice-aggregate-step c = let f = c .before .before .before .before .before in sym (frame-long (line f) _ _ _ (f .before .unpack .ensures))
 
 slice-aggregate-step-2 : tie.Need-slice-aggregate-step-2 Inv-loop μ-loop
-slice-aggregate-step-2 c = sym (at (c .before .before .before .before .before) .before .loop .inv .3)
+slice-aggregate-step-2 c = sym (at (c .before .before .before .before .before .before) .before .loop .inv .3)
 
 step-requires : tie.Need-step-requires Inv-loop μ-loop
-step-requires c κs = sound (c .before .before .before .before .before)
+step-requires c κs = sound (c .before .before .before .before .before .before)
 
 slice-aggregate-write-line : tie.Need-slice-aggregate-write-line Inv-loop μ-loop
 slice-aggregate-write-line c = let g = c .before .before in sym (same-report _ _ _ _ _ _ _ _ _ _ (went g .played) ∙ at (g .before) .before .loop .inv .3)
@@ -386,9 +404,14 @@ run-spec =
     mul-own-in
     element-copy-out-own-in
     own-in-requires
-    mul-t56
+    mul-t57
     element-set-from-t-4
+    array-read-if3
     array-share-prefix-frame-2
+    slice-aggregate-ask
+    slice-aggregate-ask-2
+    ask-requires
+    array-share-prefix-frame-3
     slice-aggregate-step
     slice-aggregate-step-2
     step-requires
