@@ -75,6 +75,7 @@ pub fn run(
                 t.accounts[j] = own_in(t.accounts[j], p);
             }
         } else if (n != 0) & (frame[0] == 9) {
+            // A query leaves the table as it is. Where n is 0, byte 0 is an earlier frame's.
             let q = ask(t, ids, days, used, &frame[..n], &mut report);
             used = q.used;
             answer = q.answer;
