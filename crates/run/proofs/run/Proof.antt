@@ -1,137 +1,18 @@
--- The invariant: the lines played so far, the end of the next one, the lengths of the buffers and of the table's arrays. The measure is what is left of the
--- text. Assumes nothing.
+mod Loop
 use mathlib.Core.Path.{_≡_, refl, sym, _∙_}
 use mathlib.Core.Logic.{⊎-elim, inl, inr}
-use mathlib.Core.List.{List}
-use Prim.Native.Nat.{ℕ, _≤_, _+_, _-_}
+use Prim.Native.Nat.{_-_}
 use native.Mathlib.Omega.{arith}
 use borrow.Author.Needs.{needs}
-use lib.ListN.{length, take, drop, length-set}
-use Rattle.frame.specs.Frame.{lineFrame}
-use Rattle.table.specs.declared.Table.{Table}
-use Rattle.table.specs.Promise.{Good}
+use lib.ListN.{length}
 use Rattle.table.proofs.Places.{length-mapped}
-use Rattle.payment.specs.declared.Transfer.{Transfer}
-use Rattle.payment.specs.declared.Found.{Found}
-use Rattle.payment.proofs.Parties.{Sought, all-sized}
-use Rattle.payment.proofs.Calls.{Accepted, refused, taken, out-room, own-out-room, in-room, own-in-room, booked}
-use Rattle.promise.specs.View.{viewOf}
-use Rattle.promise.specs.Promise.{Sound}
-use Rattle.promise.proofs.Laws.{good-table}
-use Rattle.run.specs.Run.{NextIs, Passed}
-use Rattle.run.proofs.Laws.{small, same-report, begin, turn, forward, fits, all-chosen}
-use Rattle.run.proofs.Turns.{frame-within, frame-long, frame-formed, query-formed, Long, Turned, turned, paid}
+use Rattle.payment.proofs.Parties.{all-sized}
+use Rattle.payment.proofs.Calls.{out-room, own-out-room, in-room, own-in-room}
+use Rattle.run.proofs.Laws.{small, same-report, begin, turn, all-chosen}
+use Rattle.run.proofs.Turns.{frame-long, frame-formed, query-formed}
+use Rattle.run.proofs.run.Proof.Loop.{Inv-loop, μ-loop, ahead, roomy, at, line, within, table, sound, good, long, front, sought, sides, accepted, last, last2, last3, last4, went}
 use Rattle.run.proofs.run.Statement.{statement}
 use Rattle.run.proofs.run.Tie as tie
-
-abbrev Inv-loop : tie.InvT-loop
-Inv-loop ids₀ days₀ used₀ lines out₀ t₀ values frame₀ report₀ read₀ written₀ end₀ ids days used out t frame report read written end =
-    (Passed (viewOf t₀ ids₀ days₀ used₀) lines out₀ t ids days used read written out) × (NextIs lines read (length out₀ - written) end)
-    × (length out ≡ length out₀) × (length report ≡ 913) × (length frame ≡ 352) × (Long t)
-
-abbrev μ-loop : tie.MeasureT-loop
-μ-loop ids₀ days₀ used₀ lines out₀ t₀ values frame₀ report₀ read₀ written₀ end₀ ids days used out t frame report read written end = length lines - read
-
--- ---- in a turn: the line's end is at or behind its start, and there is room
-
-ahead : (c : tie.In-loop Inv-loop μ-loop) → c .before .loop .read ≤ c .before .loop .end
-ahead c = forward _ _ _ _ _ _ _ _ _ _ _ (c .before .loop .inv .0) (c .before .loop .inv .1) (c .loop-test .taken)
-
-roomy : (c : tie.In-loop Inv-loop μ-loop) → c .before .loop .written + 1829 ≤ length (c .before .loop .out)
-roomy c = omega (arith, fits _ _ _ _ _ _ _ _ _ _ _ (c .before .loop .inv .0) (c .before .loop .inv .1) (c .loop-test .taken), c .before .loop .inv .2)
-
--- ---- the line's frame
-
-abbrev at : tie.After-frame2 Inv-loop μ-loop → tie.In-loop Inv-loop μ-loop
-at f = f .before .before .before .before .before
-
-abbrev line : tie.After-frame2 Inv-loop μ-loop → List ℕ
-line f = let v = at f .before .loop in take (v .end - v .read) (drop (v .read) (at f .before .before .before .before .before .before .args .lines .now))
-
-within : (f : tie.After-frame2 Inv-loop μ-loop) → f .before .unpack .result ≤ length (f .before .unpack .last .1 .0)
-within f = frame-within (line f) _ _ _ (f .before .unpack .ensures)
-
-is : (f : tie.After-frame2 Inv-loop μ-loop) → take (f .before .unpack .result) (f .before .unpack .last .1 .0) ≡ lineFrame (line f)
-is f = f .before .unpack .ensures .frame-is
-
--- ---- the table before the turn
-
-abbrev table : tie.After-frame2 Inv-loop μ-loop → Table
-table f = at f .before .loop .t
-
-sound : (f : tie.After-frame2 Inv-loop μ-loop) → let v = at f .before .loop in Sound (v .t) (v .ids) (v .days) (v .used)
-sound f = at f .before .loop .inv .0 .sound
-
-good : (f : tie.After-frame2 Inv-loop μ-loop) → Good (table f)
-good f = let v = at f .before .loop in good-table (v .t) (v .ids) (v .days) (v .used) (sound f)
-
-long : (f : tie.After-frame2 Inv-loop μ-loop) → length (table f .accounts) ≡ 64
-long f = at f .before .loop .inv .5 .accounts-long
-
--- ---- a payment: its parties' places, and the four stores where it is accepted
-
-abbrev front : tie.After-bank-slot2 Inv-loop μ-loop → tie.After-frame2 Inv-loop μ-loop
-front c = c .before .before .before .before .before .before .before .before .before .before .before .before .before .before
-
-abbrev order : tie.After-bank-slot2 Inv-loop μ-loop → Transfer
-order c = c .before .before .before .before .before .before .before .before .before .before .before .transfer-at .result
-
-abbrev found : tie.After-bank-slot2 Inv-loop μ-loop → Found
-found c = c .before .before .before .before .before .before .before .before .find-parties .result
-
-abbrev k : tie.After-bank-slot2 Inv-loop μ-loop → ℕ
-k c = c .before .before .before .bank-slot .result
-
-sought : (c : tie.After-bank-slot2 Inv-loop μ-loop) → Sought (table (front c)) (order c) (found c) (k c) (c .bank-slot2 .result)
-sought c = record { found = c .before .before .before .before .before .before .before .before .find-parties .ensures; payer-bank = c .before .before .before .bank-slot .ensures; payee-bank = c .bank-slot2 .ensures }
-
-abbrev sides : tie.Then2 Inv-loop μ-loop → tie.After-bank-slot2 Inv-loop μ-loop
-sides c = c .before .before .before .before
-
-accepted : (c : tie.Then2 Inv-loop μ-loop) → let b = sides c in Accepted (table (front b)) (order b) (found b) (k b) (b .bank-slot2 .result)
-accepted c = let b = sides c in
-    taken (table (front b)) (good (front b)) (long (front b)) (sought b) (c .before .decide .result) (c .before .decide .ensures) (c .if2 .taken)
-
-abbrev last : tie.After-bank-out Inv-loop μ-loop → tie.Then2 Inv-loop μ-loop
-last c = c .before .before
-
-abbrev last2 : tie.After-own-out Inv-loop μ-loop → tie.After-bank-out Inv-loop μ-loop
-last2 c = c .before .before
-
-abbrev last3 : tie.After-bank-in Inv-loop μ-loop → tie.After-own-out Inv-loop μ-loop
-last3 c = c .before .before
-
-abbrev last4 : tie.After-own-in Inv-loop μ-loop → tie.After-bank-in Inv-loop μ-loop
-last4 c = c .before .before
-
--- ---- what the turn left behind: of a payment accepted, of one refused, of a query, of any other frame or none
-
-went : (c : tie.Joined1 Inv-loop μ-loop) → let f = c .before in let v = at f .before .loop in
-    Turned (line f) (v .t) (v .ids) (v .days) (v .used) (v .report) (c .if1 .t) (c .if1 .answer) (c .if1 .used) (c .if1 .length) (c .if1 .ids) (c .if1 .days) (c .if1 .report)
-went c =
-    let f = c .before in
-    let v = at f .before .loop in
-    ⊎-elim
-    (λ w.
-    let q : Sought (v .t) (w .2 .result) (w .5 .result) (w .10 .result) (w .13 .result) = record { found = w .5 .ensures; payer-bank = w .10 .ensures; payee-bank = w .13 .ensures } in
-    let a = taken (v .t) (good f) (long f) q (w .16 .result) (w .16 .ensures) (w .17 .taken) in
-    turned (line f) (v .t) (v .ids) (v .days) (v .used) (v .report)
-    (paid (line f) (v .t) (v .ids) (v .days) (v .used) (v .report) (sound f) (w .2 .result) (rw (is f) at (w .2 .ensures)) _ (booked a (w .19 .result) (w .19 .ensures) (w .21 .result) (w .21 .ensures) (w .23 .result) (w .23 .ensures) (w .25 .result) (w .25 .ensures)))
-    (record { codes-long = v .inv .5 .codes-long; accounts-long = simp length-set (long f) }) _ _ _ _ _ _ _ (w .26) (w .27) (w .28) (w .29) (w .30) (w .31 ∙ w .17 .taken) (w .32))
-    (⊎-elim
-    (λ w.
-    let q : Sought (v .t) (w .2 .result) (w .5 .result) (w .10 .result) (w .13 .result) = record { found = w .5 .ensures; payer-bank = w .10 .ensures; payee-bank = w .13 .ensures } in
-    turned (line f) (v .t) (v .ids) (v .days) (v .used) (v .report)
-    (paid (line f) (v .t) (v .ids) (v .days) (v .used) (v .report) (sound f) (w .2 .result) (rw (is f) at (w .2 .ensures)) _ (refused (v .t) (good f) (long f) q (w .16 .result) (w .16 .ensures) (w .17 .left)))
-    (v .inv .5) _ _ _ _ _ _ _ (w .18) (w .19) (w .20) (w .21) (w .22) (w .23) (w .24))
-    (⊎-elim
-    (λ w. turned (line f) (v .t) (v .ids) (v .days) (v .used) (v .report) (rw (is f) at (w .6 .ensures)) (v .inv .5) _ _ _ _ _ _ _ (w .8) (w .9) (w .10) (w .11) (w .12) (w .13) (w .14))
-    (λ w.
-    turned (line f) (v .t) (v .ids) (v .days) (v .used) (v .report) (rw (is f) at (w .6 .ensures))
-    (record { codes-long = search (needs, w .6 .ok .1 .1 .1 .0 .1 .1 .0 .1); accounts-long = search (needs, length-mapped, w .6 .ok .1 .1 .1 .0 .1 .1 .1 .0 .1) }) _ _ _ _ _ _ _ (w .9) (w .10) (w .11) (w .12) (w .13) (w .14) (w .15))))
-    (c .if1 .came)
-
--- ---- the needs
 
 digit-values-requires : tie.Need-digit-values-requires Inv-loop μ-loop
 digit-values-requires c κs = search needs
