@@ -21,7 +21,6 @@ use Rattle.table.specs.Promise.{Slot}
 use Rattle.table.proofs.Places.{map-append}
 use Rattle.item_list.specs.declared.Item.{Item}
 use Rattle.item_list.specs.declared.Flags.{Flags}
-use Rattle.item_list.specs.declared.Review.{Review}
 use Rattle.item_list.specs.Records.{toItem, blank, recordAt, flagged, allFlagged, tested, reviewed}
 use Rattle.branches.specs.declared.Branches.{Branches}
 
@@ -40,24 +39,22 @@ flagged-more : (b : Branches) (f : Flags) (is : List Rule.Item) (i : Rule.Item) 
 unfolding allFlagged flagged
 flagged-more b f is i = same-flags (every-more (f .later) _ is i) (every-more (f .typed) _ is i) (every-more (f .owned) _ is i) (every-more (f .ranged) _ is i)
 
--- no item is passed
-pub none-passed : (s : Review) (is : List Item) → reviewed s (take 0 is) ≡ s
-unfolding reviewed allFlagged every
-none-passed s is =
-    ap (λ (f : Flags). record { branches = s .branches; flags = f })
-    (same-flags (and-true (s .flags .later)) (and-true (s .flags .typed)) (and-true (s .flags .owned)) (and-true (s .flags .ranged)))
+module _ (b : Branches) (f : Flags) (is : List Item) where
+  -- no item is passed
+  pub none-passed : reviewed b f (take 0 is) ≡ f
+  unfolding reviewed allFlagged every
+  none-passed = same-flags (and-true (f .later)) (and-true (f .typed)) (and-true (f .owned)) (and-true (f .ranged))
 
--- item i is passed
-pub one-more : (s : Review) (is : List Item) (i : ℕ) → i < length is → tested (reviewed s (take i is)) (recordAt is i) ≡ reviewed s (take (i + 1) is)
-unfolding reviewed tested
-one-more s is i l =
-    ap (λ (f : Flags). record { branches = s .branches; flags = f })
-    (sym (flagged-more (s .branches) (s .flags) (map toItem (take i is)) (toItem (recordAt is i)))
-    ∙ ap (allFlagged (s .branches) (s .flags)) (sym (map-append toItem (take i is) (recordAt is i)) ∙ ap (map toItem) (sym (take-suc is i blank l) ∙ ap (λ (k : ℕ). take k is) (sym (add-one i)))))
+  -- item i is passed
+  pub one-more : (i : ℕ) → i < length is → tested b (reviewed b f (take i is)) (recordAt is i) ≡ reviewed b f (take (i + 1) is)
+  unfolding reviewed tested
+  one-more i l =
+      sym (flagged-more b f (map toItem (take i is)) (toItem (recordAt is i)))
+      ∙ ap (allFlagged b f) (sym (map-append toItem (take i is) (recordAt is i)) ∙ ap (map toItem) (sym (take-suc is i blank l) ∙ ap (λ (k : ℕ). take k is) (sym (add-one i))))
 
--- every item is passed
-pub all-passed : (s : Review) (is : List Item) (i : ℕ) → length is ≤ i → reviewed s (take i is) ≡ reviewed s is
-all-passed s is i l = ap (reviewed s) (take-all i is l)
+  -- every item is passed
+  pub all-passed : (i : ℕ) → length is ≤ i → reviewed b f (take i is) ≡ reviewed b f is
+  all-passed i l = ap (reviewed b f) (take-all i is l)
 
 -- ---- a mark at a place, read at the place of the array that stands for it
 

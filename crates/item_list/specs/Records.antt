@@ -12,7 +12,6 @@ use Rattle.table.specs.View.{placeOf}
 use Rattle.branches.specs.declared.Branches.{Branches}
 use Rattle.item_list.specs.declared.Flags.{Flags}
 use Rattle.item_list.specs.declared.Item.{Item}
-use Rattle.item_list.specs.declared.Review.{Review}
 
 abbrev pub toItem : Item → Rule.Item
 toItem i = record { account = i .account; type = i .kind; value = i .value }
@@ -54,8 +53,9 @@ allFlagged b f is = record {
   ranged = f .ranged && every (λ (i : Rule.Item). isLimit (i .value)) is;
 }
 
-unfoldable pub tested : Review → Item → Review
-tested s i = record { branches = s .branches; flags = flagged (s .branches) (s .flags) (toItem i) }
+-- by records
+unfoldable pub tested : Branches → Flags → Item → Flags
+tested b f i = flagged b f (toItem i)
 
-unfoldable pub reviewed : Review → List Item → Review
-reviewed s is = record { branches = s .branches; flags = allFlagged (s .branches) (s .flags) (map toItem is) }
+unfoldable pub reviewed : Branches → Flags → List Item → Flags
+reviewed b f is = allFlagged b f (map toItem is)

@@ -29,12 +29,6 @@ pub struct Item {
     pub value: i64,
 }
 
-// What goes from item to item.
-pub struct Review {
-    pub branches: Branches,
-    pub flags: Flags,
-}
-
 // The first n items of a change as records.
 pub fn records(accounts: [u8; 160], types: [u8; 16], values: [i64; 16], n: usize) -> [Item; 16]
     requires { ⌜ n ≤ 16 ⌝ }
@@ -61,53 +55,48 @@ pub fn records(accounts: [u8; 160], types: [u8; 16], values: [i64; 16], n: usize
 }
 
 // The flags with one item more.
-pub fn test_item(s: Review, item: Item) -> Review
-    ensures { λ r. ⌜ r ≡ tested s item ⌝ }
+pub fn test_item(b: Branches, f: Flags, item: Item) -> Flags
+    ensures { λ r. ⌜ r ≡ tested b f item ⌝ }
 {
-    let branches = s.branches;
     let account = item.account;
-    let p = place(&branches.codes, 64, named(&account, 0));
+    let p = place(&b.codes, 64, named(&account, 0));
     let j = slot(p);
     let known = p < 64;
-    let later = !known | branches.later[j];
-    let owned = known & branches.owned[j];
-    let flags = Flags {
-        later: s.flags.later & later,
-        typed: s.flags.typed & is_type(item.kind),
-        owned: s.flags.owned & owned,
-        ranged: s.flags.ranged & is_limit(item.value),
-    };
-    Review {
-        branches: branches,
-        flags: flags,
+    let later = !known | b.later[j];
+    let owned = known & b.owned[j];
+    Flags {
+        later: f.later & later,
+        typed: f.typed & is_type(item.kind),
+        owned: f.owned & owned,
+        ranged: f.ranged & is_limit(item.value),
     }
 }
 
 // Item i is copied out and tested.
-pub fn test_at(items: &[Item], i: usize, s: Review) -> Review
+pub fn test_at(items: &[Item], i: usize, b: Branches, f: Flags) -> Flags
     requires { ⌜ i < length (now items) ⌝ }
-    ensures { λ r. ⌜ r ≡ tested s (recordAt (now (items .entry)) i) ⌝ }
+    ensures { λ r. ⌜ r ≡ tested b f (recordAt (now (items .entry)) i) ⌝ }
 {
-    test_item(s, items[i])
+    test_item(b, f, items[i])
 }
 
 // All items, in order.
-pub fn check_items(items: &[Item], s: Review) -> Review
-    ensures { λ r. ⌜ r ≡ reviewed s (now (items .entry)) ⌝ }
+pub fn check_items(items: &[Item], b: Branches, f: Flags) -> Flags
+    ensures { λ r. ⌜ r ≡ reviewed b f (now (items .entry)) ⌝ }
 {
-    let mut r = s;
+    let mut r = f;
     let mut i = 0;
     while i < items.len() {
-        r = test_at(items, i, r);
+        r = test_at(items, i, b, r);
         i += 1;
     }
     r
 }
 
 // The first n items of an array are lent.
-pub fn check_first(items: [Item; 16], n: usize, s: Review) -> Review
+pub fn check_first(items: [Item; 16], n: usize, b: Branches, f: Flags) -> Flags
     requires { ⌜ n ≤ 16 ⌝ }
-    ensures { λ r. ⌜ r ≡ reviewed s (take n items) ⌝ }
+    ensures { λ r. ⌜ r ≡ reviewed b f (take n items) ⌝ }
 {
-    check_items(&items[..n], s)
+    check_items(&items[..n], b, f)
 }

@@ -15,7 +15,6 @@ use account::is_owned_by;
 use branches::Branches;
 use command::Header;
 use item_list::Flags;
-use item_list::Review;
 use item_list::check_first;
 use item_list::records;
 use message::is_type;
@@ -50,10 +49,5 @@ pub fn test_items(
         owned: true,
         ranged: true,
     };
-    let start = Review {
-        branches: b,
-        flags: flags,
-    };
-    let r = check_first(records(accounts, types, values, n), n, start);
-    r.flags
+    check_first(records(accounts, types, values, n), n, b, flags)
 }

@@ -52,11 +52,14 @@ use denote.Exit.{yes}
 use borrow.Table.Elements.{at, cut-app, join-app}
 use Rattle.item_list.specs.Records.{reviewed}
 use Rattle.item_list.specs.declared.Item.{Item}
-use Rattle.item_list.specs.declared.Review.{Review}
+use Rattle.item_list.specs.declared.Flags.{Flags}
 use Rattle.item_list.proofs.Item as T
 use Rattle.item_list.proofs.Item.Laws as T′
-use Rattle.item_list.proofs.Review as S
-use Rattle.item_list.proofs.Review.Laws as S′
+use Rattle.item_list.proofs.Flags as F
+use Rattle.item_list.proofs.Flags.Laws as F′
+use Rattle.branches.specs.declared.Branches.{Branches}
+use Rattle.branches.proofs.Branches as B
+use Rattle.branches.proofs.Branches.Laws as B′
 use Rattle.item_list.proofs.check_items as check
 use Rattle.item_list.proofs.check_items.Symbol as check-def
 use Rattle.item_list.proofs.check_items.Symbol.{name as #item-list·check-items}
@@ -83,12 +86,15 @@ slice = sliceTy (tyRef erased imm (pointee (R .written)))
 abbrev spelled : List Item → List Val
 spelled = array-vals (LL.vals T.the-type T′.the-laws)
 
--- a review's machine value
-abbrev val : Review → Val
-val = LL.val S.the-type S′.the-laws
+-- the machine values of flags and of branches
+abbrev val : Flags → Val
+val = LL.val F.the-type F′.the-laws
+
+abbrev bval : Branches → Val
+bval = LL.val B.the-type B′.the-laws
 
 abbrev stayed : Stays (lent.ended .signature .params) (lent.ended .kept)
-stayed = (stay-none (λ _. AR) yes, (stay-none (λ _. usize) yes, (stay-none (λ _. S.the-row) yes, tt)))
+stayed = (stay-none (λ _. AR) yes, (stay-none (λ _. usize) yes, (stay-none (λ _. B.the-row) yes, (stay-none (λ _. F.the-row) yes, tt))))
 
 module _ {M : Type 1} (𝓤 : URA M) (H : Heap 𝓤) (A : Atoms 𝓤) (mem′ : Memory → SProp 𝓤) (run : Routine → Fun 𝓤) where
   -- the contract that the proof cites
@@ -116,12 +122,12 @@ module _ {M : Type 1} (𝓤 : URA M) (H : Heap 𝓤) (A : Atoms 𝓤) (W : Given
       spelt ! AR (Is AR) (shows 𝓤 H A AR) spelled (array-tells R (LL.vals T.the-type T′.the-laws) (LL.tells T.the-type T′.the-laws) 16) fullShare a vs b 0 $ move ! (1 ∷ []) $ toss ! $
       use1 W (‵ (fat fullShare array b 0 mach)) (W .laws .raw-at fullShare array b 0 mach) $ use1 W (‵ (froom array b 0)) (W .laws .at-room array b 0 mach) $ done !)
 
-module _ {M : Type 1} (𝓤 : URA M) (H : Heap 𝓤) (A : Atoms 𝓤) (W : Given 𝓤 H A) (mem′ : Memory → SProp 𝓤) (run : Routine → Fun 𝓤) (a : List Item) (n : ℕ) (st : Review) (p : Is AR a (spelled a)) (gn : n < 2 ^ 64) (gs : Is S.the-row st (val st ∷ [])) (le : n ≤ 16) where
+module _ {M : Type 1} (𝓤 : URA M) (H : Heap 𝓤) (A : Atoms 𝓤) (W : Given 𝓤 H A) (mem′ : Memory → SProp 𝓤) (run : Routine → Fun 𝓤) (a : List Item) (n : ℕ) (br : Branches) (fl : Flags) (p : Is AR a (spelled a)) (gn : n < 2 ^ 64) (gb : Is B.the-row br (bval br ∷ [])) (gf : Is F.the-row fl (val fl ∷ [])) (le : n ≤ 16) where
   abbrev v : Val
   v = only (spelled a)
 
   abbrev vals : Vals lent.signature tt
-  vals = (v ∷ [], (vint w64 n ∷ [], (val st ∷ [], tt)))
+  vals = (v ∷ [], (vint w64 n ∷ [], (bval br ∷ [], (val fl ∷ [], tt))))
 
   -- what is lent
   abbrev ys : List Item
@@ -150,76 +156,77 @@ module _ {M : Type 1} (𝓤 : URA M) (H : Heap 𝓤) (A : Atoms 𝓤) (W : Given
   typed = array-lawful 𝓤 H A W R (LL.lawful T.the-type T′.the-laws 𝓤 H A W) 16 .typed a (spelled a) p .0
 
   abbrev Post : Val → SProp 𝓤
-  Post = walkOf 𝓤 H A lent.ended stayed (lent.clauses 𝓤 H A mem′ run) .post ((tt, tt, tt, (a, (n, (st, tt))), vals), tt)
+  Post = walkOf 𝓤 H A lent.ended stayed (lent.clauses 𝓤 H A mem′ run) .post ((tt, tt, tt, (a, (n, (br, (fl, tt)))), vals), tt)
 
-  exits : (r : Review) (u : Val) → r ≡ reviewed st ys → ent 𝓤 (sem 𝓤 H A (S.the-row .own r (u ∷ []))) (Post u)
+  exits : (r : Flags) (u : Val) → r ≡ reviewed br fl ys → ent 𝓤 (sem 𝓤 H A (F.the-row .own r (u ∷ []))) (Post u)
   exits r u e =
-      qed W (‵ (S.the-row .own r (u ∷ [])) ∷ []) ∵
-      suffices ! _ (ends-at 𝓤 H A lent.ended stayed (lent.clauses 𝓤 H A mem′ run) W ((tt, tt, tt, (a, (n, (st, tt))), vals), tt) u r (tt, (tt, (tt, tt))) (tt, (tt, (tt, tt)))) $ says ! e $
-      nothing ! $ owned ! S.the-row (Is S.the-row) (LL.makes S.the-type S′.the-plain 𝓤 H A) st (val st ∷ []) gs $ fjoin ! $ owned ! usize (Is usize) (uint-makes 𝓤 H A W w64) n _ (refl, gn) $ fjoin ! $
+      qed W (‵ (F.the-row .own r (u ∷ [])) ∷ []) ∵
+      suffices ! _ (ends-at 𝓤 H A lent.ended stayed (lent.clauses 𝓤 H A mem′ run) W ((tt, tt, tt, (a, (n, (br, (fl, tt)))), vals), tt) u r (tt, (tt, (tt, (tt, tt)))) (tt, (tt, (tt, (tt, tt))))) $ says ! e $
+      nothing ! $ owned ! F.the-row (Is F.the-row) (LL.makes F.the-type F′.the-plain 𝓤 H A) fl (val fl ∷ []) gf $ fjoin ! $ owned ! B.the-row (Is B.the-row) (LL.makes B.the-type B′.the-plain 𝓤 H A) br (bval br ∷ []) gb $ fjoin ! $ owned ! usize (Is usize) (uint-makes 𝓤 H A W w64) n _ (refl, gn) $ fjoin ! $
       owned ! AR (Is AR) (array-makes 𝓤 H A W R (LL.makes T.the-type T′.the-plain 𝓤 H A) 16) a (spelled a) p $ fjoin ! $ nothing ! $ done !
 
-  module _ (l₄ α : ℕ) (γ : GName) where
+  module _ (l₅ α : ℕ) (γ : GName) where
     abbrev x : RefT (List Item)
-    x = record { ptr = (l₄, 0); name = γ; now = ys }
+    x = record { ptr = (l₅, 0); name = γ; now = ys }
 
     abbrev passed : Vals check.signature (α ∷ [], tt)
-    passed = (sliceVal (l₄, 0) (length ys) ∷ [], (val st ∷ [], tt))
+    passed = (sliceVal (l₅, 0) (length ys) ∷ [], (bval br ∷ [], (val fl ∷ [], tt)))
 
     abbrev to : Check 𝓤 H A mem′ run .Ghost
-    to = (((α ∷ [], tt), (fullShare, tt), tt, (x, (st, tt)), passed), tt)
+    to = (((α ∷ [], tt), (fullShare, tt), tt, (x, (br, (fl, tt))), passed), tt)
 
-    asked : ent 𝓤 (onEntry 𝓤 H A check.signature (α ∷ [], tt) (fullShare, tt) (x, (st, tt)) passed) (Check 𝓤 H A mem′ run .pre to)
-    asked = qed W ((‵ (flft (α ∷ []) fullShare) ⊛ ‵ ftrue) ∷ ‵ (owns (ShrSlice (named 0) (α ∷ []) R ∷ S.the-row ∷ []) (x, (st, tt)) passed) ∷ []) ∵ join ! $ frame ! $ done !
+    asked : ent 𝓤 (onEntry 𝓤 H A check.signature (α ∷ [], tt) (fullShare, tt) (x, (br, (fl, tt))) passed) (Check 𝓤 H A mem′ run .pre to)
+    asked = qed W ((‵ (flft (α ∷ []) fullShare) ⊛ ‵ ftrue) ∷ ‵ (owns (ShrSlice (named 0) (α ∷ []) R ∷ B.the-row ∷ F.the-row ∷ []) (x, (br, (fl, tt))) passed) ∷ []) ∵ join ! $ frame ! $ done !
 
-    said : (r : Review) → ent 𝓤 (ensured 𝓤 H A check.ended (check.clauses 𝓤 H A mem′ run) (α ∷ [], tt) (x, (st, tt)) tt r) (fact 𝓤 (r ≡ reviewed st ys))
-    said r = exE 𝓤 _ (λ ws. snd∗ 𝓤 (sem 𝓤 H A (lasts check.ended (α ∷ [], tt) (x, (st, tt)) ws)) (fact 𝓤 (r ≡ reviewed st ys)))
+    said : (r : Flags) → ent 𝓤 (ensured 𝓤 H A check.ended (check.clauses 𝓤 H A mem′ run) (α ∷ [], tt) (x, (br, (fl, tt))) tt r) (fact 𝓤 (r ≡ reviewed br fl ys))
+    said r = exE 𝓤 _ (λ ws. snd∗ 𝓤 (sem 𝓤 H A (lasts check.ended (α ∷ [], tt) (x, (br, (fl, tt))) ws)) (fact 𝓤 (r ≡ reviewed br fl ys)))
 
   module _ (C : Calls 𝓤 H) (Λ : Loops 𝓤 H) (fm : FmC 𝓤 H (W .laws) C) (known : Triple 𝓤 (C #item-list·check-items) (Check 𝓤 H A mem′ run)) where
-    walk : ent 𝓤 (onEntry 𝓤 H A lent.signature tt tt (a, (n, (st, tt))) vals) (WpFn 𝓤 H C Λ code.function (v ∷ vint w64 n ∷ val st ∷ []) Post)
+    walk : ent 𝓤 (onEntry 𝓤 H A lent.signature tt tt (a, (n, (br, (fl, tt)))) vals) (WpFn 𝓤 H C Λ code.function (v ∷ vint w64 n ∷ bval br ∷ val fl ∷ []) Post)
     walk =
-        qed W (‵ ftrue ∷ ‵ (owns (AR ∷ usize ∷ S.the-row ∷ []) (a, (n, (st, tt))) vals) ∷ []) ∵ keep ! [] $ enter ! C Λ code.function (v ∷ vint w64 n ∷ val st ∷ []) _ $
-        alloc1 ! (λ l₀. alloc1 ! (λ l₁. alloc1 ! (λ l₂. alloc1 ! (λ l₃. alloc1 ! (λ l₄. alloc1 ! (λ l₅. alloc1 ! (λ l₆. alloc0 ! $ params1 ! $
-        -- [_6; …; _5; …; _4; …; _3; …; _2; …; _1; …; _0; …]
-        pass1 ! (init ! 10 refl typed) $ pass1 ! (init ! 8 refl (tt, record { fits = gn })) $ pass1 ! (init ! 6 refl (LL.lawful S.the-type S′.the-laws 𝓤 H A W .typed st _ gs .0)) $ pass0 ! $
-        assigns ! (of-opd ! (load ! (from ! (stop !)) (look ! 10 refl))) (from ! (stop !)) (init ! 4 refl typed) $
+        qed W (‵ ftrue ∷ ‵ (owns (AR ∷ usize ∷ B.the-row ∷ F.the-row ∷ []) (a, (n, (br, (fl, tt)))) vals) ∷ []) ∵ keep ! [] $ enter ! C Λ code.function (v ∷ vint w64 n ∷ bval br ∷ val fl ∷ []) _ $
+        alloc1 ! (λ l₀. alloc1 ! (λ l₁. alloc1 ! (λ l₂. alloc1 ! (λ l₃. alloc1 ! (λ l₄. alloc1 ! (λ l₅. alloc1 ! (λ l₆. alloc1 ! (λ l₇. alloc0 ! $ params1 ! $
+        -- [_7; …; _6; …; _5; …; _4; …; _3; …; _2; …; _1; …; _0; …]
+        pass1 ! (init ! 12 refl typed) $ pass1 ! (init ! 10 refl (tt, record { fits = gn })) $ pass1 ! (init ! 8 refl (LL.lawful B.the-type B′.the-laws 𝓤 H A W .typed br _ gb .0)) $
+        pass1 ! (init ! 6 refl (LL.lawful F.the-type F′.the-laws 𝓤 H A W .typed fl _ gf .0)) $ pass0 ! $
+        assigns ! (of-opd ! (load ! (from ! (stop !)) (look ! 12 refl))) (from ! (stop !)) (init ! 4 refl typed) $
         assigns ! (addr ! (from ! (stop !))) (from ! (stop !)) (init ! 2 refl (tt, tt)) $
-        assigns ! (agg ! (and-then ! (load ! (from ! (stop !)) (look ! 2 refl)) (and-then ! (load ! (from ! (stop !)) (look ! 8 refl)) (no-more !)))) (from ! (stop !)) (init ! 0 refl (tt, (tt, (record { fits = gn }, tt)))) $
-        rewrite ! 0 (λ (k : ℕ). ‵ (fat fullShare slice l₆ 0 (sliceVal (l₄, 0) k))) (sym long) refl $
+        assigns ! (agg ! (and-then ! (load ! (from ! (stop !)) (look ! 2 refl)) (and-then ! (load ! (from ! (stop !)) (look ! 10 refl)) (no-more !)))) (from ! (stop !)) (init ! 0 refl (tt, (tt, (record { fits = gn }, tt)))) $
+        rewrite ! 0 (λ (k : ℕ). ‵ (fat fullShare slice l₇ 0 (sliceVal (l₅, 0) k))) (sym long) refl $
         -- the array is its items, of which the first n are lent for a lifetime that is made here
-        move ! (4 ∷ []) $ use1 W (‵ (cells (mem R) a l₄ 0)) (to-cells 𝓤 H A W a p l₄) $ rewrite ! 0 (λ (zs : List Item). ‵ (cells (mem R) zs l₄ 0)) (sym (take-append-drop n a)) refl $
-        use1 W (‵ (cells (mem R) ys l₄ 0) ⊛ ‵ (Others l₄)) (cut-app 𝓤 H A (mem R) ys (drop n a) l₄ 0) $ split ! $
-        use1 W (‵ (row R fullShare ys l₄ 0)) (whole-out 𝓤 H A W R ys l₄ 0) $ feqI ! ℕ (length ys) (length ys) refl $ fjoin ! $
+        move ! (4 ∷ []) $ use1 W (‵ (cells (mem R) a l₅ 0)) (to-cells 𝓤 H A W a p l₅) $ rewrite ! 0 (λ (zs : List Item). ‵ (cells (mem R) zs l₅ 0)) (sym (take-append-drop n a)) refl $
+        use1 W (‵ (cells (mem R) ys l₅ 0) ⊛ ‵ (Others l₅)) (cut-app 𝓤 H A (mem R) ys (drop n a) l₅ 0) $ split ! $
+        use1 W (‵ (row R fullShare ys l₅ 0)) (whole-out 𝓤 H A W R ys l₅ 0) $ feqI ! ℕ (length ys) (length ys) refl $ fjoin ! $
         lft-new ! tt (λ α. move ! (1 ∷ []) $
-        use1 W (later (some (λ (γ : GName). ‵ (ShrSlice (named 0) (α ∷ []) R .own (x l₄ α γ) (sliceVal (l₄, 0) (length ys) ∷ [])) ⊛ ‵ (flent (α ∷ []) (Lent l₄)))))
-        (lends-shr-slice 𝓤 H A W R (named 0) (α ∷ []) fullShare ys l₄ 0 room) $ await ! tt $ pick ! (λ γ. split ! $
-        -- [the reference; what is lent; the token; the other items; _6; …; _5; …; _4's end; _3; …; _2; …; _1; …; _0; …]
-        nothing ! $ owned ! S.the-row (Is S.the-row) (LL.makes S.the-type S′.the-plain 𝓤 H A) st (val st ∷ []) gs $ fjoin ! $ move ! (1 ∷ 0 ∷ []) $ fjoin ! $
-        nothing ! $ move ! (3 ∷ 0 ∷ []) $ join ! $ use2 W (raw (Check 𝓤 H A mem′ run .pre (to l₄ α γ))) (asked l₄ α γ) $
-        -- [what the callee asks; what is lent; the other items; _6; …; _5; …; _4's end; _3; …; _2; …; _1; …; _0; …]
-        calls-at ! fm (Check 𝓤 H A mem′ run) known (to l₄ α γ) (and-then ! (load ! (from ! (stop !)) (look ! 3 refl)) (and-then ! (load ! (from ! (stop !)) (look ! 8 refl)) (no-more !))) (λ u.
-        use1 W (later (some (λ (r : Review). ((‵ (flft (α ∷ []) fullShare) ⊛ ‵ ftrue) ⊛ ‵ (S.the-row .own r (u ∷ []))) ⊛ raw (ensured 𝓤 H A check.ended (check.clauses 𝓤 H A mem′ run) (α ∷ [], tt) (x l₄ α γ, (st, tt)) tt r)))) (id⊢ 𝓤 _) $ await ! tt $ pick ! (λ r.
-        split ! $ move ! (1 ∷ []) $ use1 W (raw (fact 𝓤 (r ≡ reviewed st ys))) (said l₄ α γ r) $ heard ! (r ≡ reviewed st ys) (λ e. split ! $ move ! (1 ∷ []) $
-        peeks ! S.the-row (Is S.the-row) (shows 𝓤 H A S.the-row) r (u ∷ []) (λ is.
-        -- [the result; the token; what is lent; the other items; _6; …; _5; …; _4's end; _3; …; _2; …; _1; …; _0; …]
-        land ! (from ! (stop !)) (init ! 15 refl (LL.lawful S.the-type S′.the-laws 𝓤 H A W .typed r _ is .0)) $
+        use1 W (later (some (λ (γ : GName). ‵ (ShrSlice (named 0) (α ∷ []) R .own (x l₅ α γ) (sliceVal (l₅, 0) (length ys) ∷ [])) ⊛ ‵ (flent (α ∷ []) (Lent l₅)))))
+        (lends-shr-slice 𝓤 H A W R (named 0) (α ∷ []) fullShare ys l₅ 0 room) $ await ! tt $ pick ! (λ γ. split ! $
+        -- [the reference; what is lent; the token; the other items; _7; …; _6; …; _5's end; _4; …; _3; …; _2; …; _1; …; _0; …]
+        nothing ! $ owned ! F.the-row (Is F.the-row) (LL.makes F.the-type F′.the-plain 𝓤 H A) fl (val fl ∷ []) gf $ fjoin ! $ owned ! B.the-row (Is B.the-row) (LL.makes B.the-type B′.the-plain 𝓤 H A) br (bval br ∷ []) gb $ fjoin ! $ move ! (1 ∷ 0 ∷ []) $ fjoin ! $
+        nothing ! $ move ! (3 ∷ 0 ∷ []) $ join ! $ use2 W (raw (Check 𝓤 H A mem′ run .pre (to l₅ α γ))) (asked l₅ α γ) $
+        -- [what the callee asks; what is lent; the other items; _7; …; _6; …; _5's end; _4; …; _3; …; _2; …; _1; …; _0; …]
+        calls-at ! fm (Check 𝓤 H A mem′ run) known (to l₅ α γ) (and-then ! (load ! (from ! (stop !)) (look ! 3 refl)) (and-then ! (load ! (from ! (stop !)) (look ! 10 refl)) (and-then ! (load ! (from ! (stop !)) (look ! 8 refl)) (no-more !)))) (λ u.
+        use1 W (later (some (λ (r : Flags). ((‵ (flft (α ∷ []) fullShare) ⊛ ‵ ftrue) ⊛ ‵ (F.the-row .own r (u ∷ []))) ⊛ raw (ensured 𝓤 H A check.ended (check.clauses 𝓤 H A mem′ run) (α ∷ [], tt) (x l₅ α γ, (br, (fl, tt))) tt r)))) (id⊢ 𝓤 _) $ await ! tt $ pick ! (λ r.
+        split ! $ move ! (1 ∷ []) $ use1 W (raw (fact 𝓤 (r ≡ reviewed br fl ys))) (said l₅ α γ r) $ heard ! (r ≡ reviewed br fl ys) (λ e. split ! $ move ! (1 ∷ []) $
+        peeks ! F.the-row (Is F.the-row) (shows 𝓤 H A F.the-row) r (u ∷ []) (λ is.
+        -- [the result; the token; what is lent; the other items; _7; …; _6; …; _5's end; _4; …; _3; …; _2; …; _1; …; _0; …]
+        land ! (from ! (stop !)) (init ! 17 refl (LL.lawful F.the-type F′.the-laws 𝓤 H A W .typed r _ is .0)) $
         -- the lifetime ends, and the items come back
-        move ! (1 ∷ []) $ split ! $ lft-end ! tt $ move ! (0 ∷ 3 ∷ []) $ lent-back ! tt $ fsplit ! $ toss ! $ use1 W (‵ (cells (mem R) ys l₄ 0)) (whole-in 𝓤 H A W R ys l₄ 0) $
-        move ! (0 ∷ 3 ∷ []) $ use2 W (‵ (cells (mem R) (ys ++ drop n a) l₄ 0)) (join-app 𝓤 H A (mem R) ys (drop n a) l₄ 0) $
-        rewrite ! 0 (λ (zs : List Item). ‵ (cells (mem R) zs l₄ 0)) (take-append-drop n a) refl $ use1 W (‵ (froom array l₄ 0)) (to-room 𝓤 H A W a p l₄) $
-        -- [room for _4; true; the result; _6; …; _5; …; _4's end; _3; …; _2; …; _1; …; _0; …]
-        returns ! (look ! 14 refl) $ forget ! 3 refl $ forget ! 5 refl $ forget ! 8 refl $ forget ! 10 refl $ forget ! 12 refl $ forget ! 14 refl $
-        move ! (14 ∷ 15 ∷ []) $ free1 ! $ move ! (12 ∷ 13 ∷ []) $ free1 ! $ move ! (10 ∷ 11 ∷ []) $ free1 ! $ move ! (8 ∷ 9 ∷ []) $ free1 ! $ move ! (0 ∷ 7 ∷ []) $ free1 ! $ move ! (4 ∷ 5 ∷ []) $ free1 ! $ move ! (2 ∷ 3 ∷ []) $ free1 ! $ free0 ! $
-        keep ! (1 ∷ []) $ by ! (exits r u e))))))))))))))
+        move ! (1 ∷ []) $ split ! $ lft-end ! tt $ move ! (0 ∷ 3 ∷ []) $ lent-back ! tt $ fsplit ! $ toss ! $ use1 W (‵ (cells (mem R) ys l₅ 0)) (whole-in 𝓤 H A W R ys l₅ 0) $
+        move ! (0 ∷ 3 ∷ []) $ use2 W (‵ (cells (mem R) (ys ++ drop n a) l₅ 0)) (join-app 𝓤 H A (mem R) ys (drop n a) l₅ 0) $
+        rewrite ! 0 (λ (zs : List Item). ‵ (cells (mem R) zs l₅ 0)) (take-append-drop n a) refl $ use1 W (‵ (froom array l₅ 0)) (to-room 𝓤 H A W a p l₅) $
+        -- [room for _5; true; the result; _7; …; _6; …; _5's end; _4; …; _3; …; _2; …; _1; …; _0; …]
+        returns ! (look ! 16 refl) $ forget ! 3 refl $ forget ! 5 refl $ forget ! 8 refl $ forget ! 10 refl $ forget ! 12 refl $ forget ! 14 refl $ forget ! 16 refl $
+        move ! (16 ∷ 17 ∷ []) $ free1 ! $ move ! (14 ∷ 15 ∷ []) $ free1 ! $ move ! (12 ∷ 13 ∷ []) $ free1 ! $ move ! (10 ∷ 11 ∷ []) $ free1 ! $ move ! (8 ∷ 9 ∷ []) $ free1 ! $ move ! (0 ∷ 7 ∷ []) $ free1 ! $ move ! (4 ∷ 5 ∷ []) $ free1 ! $ move ! (2 ∷ 3 ∷ []) $ free1 ! $ free0 ! $
+        keep ! (1 ∷ []) $ by ! (exits r u e)))))))))))))))
 
 module _ {M : Type 1} (𝓤 : URA M) (H : Heap 𝓤) (A : Atoms 𝓤) (W : Given 𝓤 H A) (mem′ : Memory → SProp 𝓤) (run : Routine → Fun 𝓤) where
   lent-walks : (C : Calls 𝓤 H) (Λ : Loops 𝓤 H) → FmC 𝓤 H (W .laws) C → Triple 𝓤 (C #item-list·check-items) (Check 𝓤 H A mem′ run) → Walks 𝓤 H A lent.ended stayed (WpFn 𝓤 H C Λ code.function) (lent.clauses 𝓤 H A mem′ run)
-  lent-walks C Λ fm known = walked 𝓤 H A lent.ended stayed (lent.clauses 𝓤 H A mem′ run) (WpFn 𝓤 H C Λ code.function) (λ κs. (spelled, (uint-vals w64, (LL.vals S.the-type S′.the-laws, tt)))) (λ κs. (array-tells R (LL.vals T.the-type T′.the-laws) (LL.tells T.the-type T′.the-laws) 16, (uint-tells w64, (LL.tells S.the-type S′.the-laws, tt))))
-      (λ κs qs bounds a g are. needs 𝓤 _ _ (λ le. walk 𝓤 H A W mem′ run (a .0) (a .1 .0) (a .1 .1 .0) (are .0) (are .1 .0 .1) (are .1 .1 .0) le C Λ fm known))
+  lent-walks C Λ fm known = walked 𝓤 H A lent.ended stayed (lent.clauses 𝓤 H A mem′ run) (WpFn 𝓤 H C Λ code.function) (λ κs. (spelled, (uint-vals w64, (LL.vals B.the-type B′.the-laws, (LL.vals F.the-type F′.the-laws, tt))))) (λ κs. (array-tells R (LL.vals T.the-type T′.the-laws) (LL.tells T.the-type T′.the-laws) 16, (uint-tells w64, (LL.tells B.the-type B′.the-laws, (LL.tells F.the-type F′.the-laws, tt)))))
+      (λ κs qs bounds a g are. needs 𝓤 _ _ (λ le. walk 𝓤 H A W mem′ run (a .0) (a .1 .0) (a .1 .1 .0) (a .1 .1 .1 .0) (are .0) (are .1 .0 .1) (are .1 .1 .0) (are .1 .1 .1 .0) le C Λ fm known))
 
 lent-meets : {M : Type 1} (𝓤 : URA M) (H : Heap 𝓤) (A : Atoms 𝓤) (W : Given 𝓤 H A) (mem′ : Memory → SProp 𝓤) (run : Routine → Fun 𝓤) (𝓣 : Tables 𝓤 H) → Triple 𝓤 (𝓣 .C #item-list·check-items) (Check 𝓤 H A mem′ run)
     → Meets 𝓤 H A lent.signature (WpFn 𝓤 H (𝓣 .C) (𝓣 .Λ) code.function) (lent.spec 𝓤 H A mem′ run)
-lent-meets 𝓤 H A W mem′ run 𝓣 known = walk-meets 𝓤 H A lent.ended stayed W (goes-none 𝓤 H A W 0 (λ _. AR) yes (λ κs x f. refl), (goes-none 𝓤 H A W 0 (λ _. usize) yes (λ κs x f. refl), (goes-none 𝓤 H A W 0 (λ _. S.the-row) yes (λ κs x f. refl), tt))) (lent.clauses 𝓤 H A mem′ run) (WpFn 𝓤 H (𝓣 .C) (𝓣 .Λ) code.function) (WpFn-mono 𝓤 H (W .laws) 𝓣 code.function)
+lent-meets 𝓤 H A W mem′ run 𝓣 known = walk-meets 𝓤 H A lent.ended stayed W (goes-none 𝓤 H A W 0 (λ _. AR) yes (λ κs x f. refl), (goes-none 𝓤 H A W 0 (λ _. usize) yes (λ κs x f. refl), (goes-none 𝓤 H A W 0 (λ _. B.the-row) yes (λ κs x f. refl), (goes-none 𝓤 H A W 0 (λ _. F.the-row) yes (λ κs x f. refl), tt)))) (lent.clauses 𝓤 H A mem′ run) (WpFn 𝓤 H (𝓣 .C) (𝓣 .Λ) code.function) (WpFn-mono 𝓤 H (W .laws) 𝓣 code.function)
     (lent-walks 𝓤 H A W mem′ run (𝓣 .C) (𝓣 .Λ) (fmOf 𝓤 H (W .laws) 𝓣) known)
 
 pub check-first-spec : {M : Type 1} → stated.statement M

@@ -9,7 +9,6 @@ use mir.Val.{SFits}
 use mir.Facts.{toZ-ofZ}
 use lib.ListN.{length, getD}
 use Rattle.amount.specs.Amount.{isLimit}
-use Rattle.item_list.specs.declared.Flags.{Flags}
 use Rattle.item_list.specs.Records.{flagged, tested}
 use Rattle.item_list.proofs.Laws.{same-flags, owned-mark, later-mark, place-found}
 use Rattle.item_list.proofs.test_item.Statement.{statement}
@@ -18,13 +17,13 @@ use Rattle.item_list.proofs.test_item.Tie as tie
 account-long : (s : tie.Start) → length (s .args .item .account) ≡ 10
 account-long s = search needs
 
-codes-long : (s : tie.Start) → length (s .args .s .branches .codes) ≡ 64
+codes-long : (s : tie.Start) → length (s .args .t1 .codes) ≡ 64
 codes-long s = search needs
 
-owned-long : (s : tie.Start) → length (s .args .s .branches .owned) ≡ 64
+owned-long : (s : tie.Start) → length (s .args .t1 .owned) ≡ 64
 owned-long s = search needs
 
-later-long : (s : tie.Start) → length (s .args .s .branches .later) ≡ 64
+later-long : (s : tie.Start) → length (s .args .t1 .later) ≡ 64
 later-long s = search needs
 
 value-fits : (s : tie.Start) → SFits w64 (s .args .item .value)
@@ -34,7 +33,7 @@ slice-aggregate-named : tie.Need-slice-aggregate-named
 slice-aggregate-named c = search needs
 
 named-requires : tie.Need-named-requires
-named-requires c κs = omega (arith, account-long (c .before .before .before .before .before))
+named-requires c κs = omega (arith, account-long (c .before .before .before .before))
 
 place-requires : tie.Need-place-requires
 place-requires c κs = search needs
@@ -57,20 +56,20 @@ is-limit-requires c κs = search needs
 returns : tie.Need-returns
 unfolding tested flagged
 returns c =
-    let s = c .before .before .before .before .before .before .before .before .before .before .before .before .before .before .before .before .before in
-    let b = s .args .s .branches in
-    let f = s .args .s .flags in
+    let s = c .before .before .before .before .before .before .before .before .before .before .before .before .before .before .before .before in
+    let b = s .args .t1 in
+    let f = s .args .f in
     let x = s .args .item in
-    let p = c .before .before .before .before .before .before .before .before .before .before .place in
-    let j = c .before .before .before .before .before .before .before .before .before .slot in
-    let n = c .before .before .before .before .before .before .before .before .before .before .before .named in
+    let k = c .before .before .before .before .before .before .before .before .before in
+    let p = k .before .place in
+    let j = k .slot in
+    let n = k .before .before .named in
     let at = place-found (b .codes) (x .account) (n .result) (p .result) (codes-long s) (account-long s) (n .ensures) (p .ensures) in
-    ap (λ (g : Flags). record { branches = b; flags = g })
-    (same-flags
+    same-flags
     (ap (λ (q : Bool). f .later && q) (later-mark (b .later) (later-long s) (p .result) (j .result) (j .ensures) false ∙ ap (λ (i : ℕ). getD (b .later) i true) at))
     (ap (λ (q : Bool). f .typed && q) (c .before .before .before .before .before .is-type .ensures))
     (ap (λ (q : Bool). f .owned && q) (owned-mark (b .owned) (owned-long s) (p .result) (j .result) (j .ensures) false ∙ ap (λ (i : ℕ). getD (b .owned) i false) at))
-    (ap (λ (q : Bool). f .ranged && q) (c .before .is-limit .ensures ∙ ap isLimit (toZ-ofZ (value-fits s)))))
+    (ap (λ (q : Bool). f .ranged && q) (c .before .is-limit .ensures ∙ ap isLimit (toZ-ofZ (value-fits s))))
 
 pub test-item-spec : {M : Type 1} → statement M
 test-item-spec =

@@ -5,7 +5,6 @@ use mathlib.Core.Bool.{true}
 use Rattle.command.specs.View.{itemsFrom}
 use Rattle.table.specs.View.{accountsOf}
 use Rattle.item_list.specs.declared.Flags.{Flags}
-use Rattle.item_list.specs.declared.Review.{Review}
 use Rattle.item_list.specs.Records.{allFlagged, reviewed}
 use Rattle.items.specs.Items.{Flagged}
 use Rattle.items.proofs.Laws.{items-flagged}
@@ -21,12 +20,10 @@ check-first-requires c κs = omega arith
 returns : tie.Need-returns
 unfolding reviewed
 returns c h t g k =
-    let a = c .before .before .before .args in
+    let a = c .before .before .args in
     let is = itemsFrom 0 (a .n) (a .accounts) (a .types) (a .values) in
     subst (λ (f : Flags). Flagged h (accountsOf t) is f)
-    (sym
-    (ap (λ (r : Review). r .flags) (c .before .check-first .ensures)
-    ∙ ap (allFlagged (a .b) (record { later = true; typed = true; owned = true; ranged = true })) (c .before .before .records .ensures)))
+    (sym (c .check-first .ensures ∙ ap (allFlagged (a .b) (record { later = true; typed = true; owned = true; ranged = true })) (c .before .records .ensures)))
     (items-flagged t g h (a .b) k is)
 
 pub test-items-spec : {M : Type 1} → statement M
