@@ -1,13 +1,13 @@
 -- How marks come about account by account, and what a look-up among them finds. Assumes nothing.
 use mathlib.Core.Path.{_≡_, refl, sym, ap, ap₂, _∙_}
-use mathlib.Core.Bool.{Bool, true, false, not, cond, _&&_, _||_, or-assoc}
+use mathlib.Core.Bool.{Bool, true, false, not, cond, _&&_, _||_, or-false, or-assoc}
 use mathlib.Core.List.{List, [], _∷_, _++_, map}
 use Prim.Native.Nat.{ℕ, zero, suc, _+_, _-_, _≤_, _<_}
 use native.Mathlib.Omega.{arith}
 use native.Mathlib.Numerals.{add-one}
 use lib.Dec.{eqb}
 use lib.ListN.{length, take, drop, getD, set, replicate, take-append-drop}
-use lib.Seq.{take-suc, take-all, length-take-le, drop-cons}
+use lib.Seq.{take-suc, take-all, length-take-le}
 use Rattle.rules.specs.Account.{Moment, Account, blank, codes, among, known, at}
 use Rattle.rules.specs.Command.{some?}
 use Rattle.rules.specs.Message.{isBranchOf, later}
@@ -68,6 +68,25 @@ module _ (f : Account → Bool) (d : Bool) where
       elim (eqb (x .code) c) as (λ b. getD (f x ∷ (map f xs ++ replicate m d)) (cond b 0 (suc (placeOf c (codes xs ++ more)))) d ≡ cond (b || known c xs) (f (cond b x (at c xs))) d)
       [ true ↦ refl | false ↦ looked c m xs more ]
 
+-- ---- whether there is one
+
+module _ (f : Account → Bool) where
+  some-join : (xs : List Account) (x : Account) → some? f (xs ++ (x ∷ [])) ≡ (some? f xs || f x)
+  unfolding some?
+  some-join [] x = or-false (f x)
+  some-join (y ∷ xs) x = ap (λ (b : Bool). f y || b) (some-join xs x) ∙ sym (or-assoc (f y) (some? f xs) (f x))
+
+  -- with the account at a place of the table
+  pub some-at : (t : Table) → Good t → length (t .accounts) ≡ 64 → (i : ℕ) (x : Program.Account) (a v : Bool) → i < t .count
+      → a ≡ some? f (take i (accountsOf t)) → v ≡ f (toAccount (getD (t .accounts) i x)) → (a || v) ≡ some? f (take (i + 1) (accountsOf t))
+  some-at t g long i x a v h e q =
+      ap₂ (λ (b c : Bool). b || c) e (q ∙ ap f (sym (accounts-at t (g .within) long i x blank h)))
+      ∙ sym (some-join (take i (accountsOf t)) (getD (accountsOf t) i blank))
+      ∙ ap (some? f) (sym (take-suc (accountsOf t) i blank (omega (arith, accounts-length t (g .within) long))) ∙ ap (λ k. take k (accountsOf t)) (sym (add-one i)))
+
+  pub some-all : (t : Table) → Good t → length (t .accounts) ≡ 64 → (i : ℕ) → i ≡ t .count → some? f (take i (accountsOf t)) ≡ some? f (accountsOf t)
+  some-all t g long i e = ap (some? f) (take-all i (accountsOf t) (omega (arith, accounts-length t (g .within) long)))
+
 module _ (t : Table) (g : Good t) (sender : ℕ) (m : Moment) (b : Branches) (k : Marked sender m t b) (c : ℕ) where
   found : (f : Account → Bool) (d : Bool) → getD (marks f d (accountsOf t)) (placeOf c (b .codes)) d ≡ cond (known c (accountsOf t)) (f (at c (accountsOf t))) d
   unfolding marks
@@ -88,27 +107,3 @@ module _ (t : Table) (g : Good t) (sender : ℕ) (m : Moment) (b : Branches) (k 
       ap (λ l. getD l (placeOf c (b .codes)) true) (k .later-are)
       ∙ found (isTimely sender m) true
       ∙ (elim (known c (accountsOf t)) as (λ q. cond q (isTimely sender m (at c (accountsOf t))) true ≡ (not (q && isOwned sender (at c (accountsOf t))) || later ((at c (accountsOf t)) .moment) m)) [ true ↦ refl | false ↦ refl ])
-
--- ---- whether a mark is set
-
--- at i, or after it
-pub marked-step : (l : List Bool) (i : ℕ) (a d : Bool) → i < length l → (a || some? (λ b. b) (drop i l)) ≡ ((a || getD l i d) || some? (λ b. b) (drop (i + 1) l))
-unfolding some?
-marked-step l i a d h =
-    ap (λ q. a || some? (λ b. b) q) (drop-cons l i d h ∙ ap (λ n. getD l i d ∷ drop n l) (sym (add-one i)))
-    ∙ sym (or-assoc a (getD l i d) (some? (λ b. b) (drop (i + 1) l)))
-
-some-none : (m : ℕ) → some? (λ b. b) (replicate m false) ≡ false
-unfolding some?
-some-none zero = refl
-some-none (suc m) = some-none m
-
-some-mark : (f : Account → Bool) (m : ℕ) (xs : List Account) → some? (λ b. b) (map f xs ++ replicate m false) ≡ some? f xs
-unfolding some?
-some-mark f m [] = some-none m
-some-mark f m (x ∷ xs) = ap (λ q. f x || q) (some-mark f m xs)
-
--- where an account is owned by the sender
-pub some-marked : (sender : ℕ) (m : Moment) (t : Table) (b : Branches) → Marked sender m t b → some? (λ o. o) (b .owned) ≡ some? (isOwned sender) (accountsOf t)
-unfolding marks
-some-marked sender m t b k = ap (some? (λ o. o)) (k .owned-are) ∙ some-mark (isOwned sender) (64 - length (accountsOf t)) (accountsOf t)

@@ -5,6 +5,7 @@ use mathlib.Core.List.{List, _++_, map}
 use Prim.Native.Nat.{ℕ, _-_}
 use lib.ListN.{length, replicate}
 use Rattle.rules.specs.Account.{Moment, Account}
+use Rattle.rules.specs.Command.{some?}
 use Rattle.rules.specs.Message.{ownedBy, later}
 use Rattle.table.specs.declared.Table.{Table}
 use Rattle.table.specs.View.{accountsOf}
@@ -26,3 +27,4 @@ pub record Marked (sender : ℕ) (m : Moment) (t : Table) (b : Branches) : Type 
   pub codes-are : b .codes ≡ t .codes
   pub owned-are : b .owned ≡ marks (isOwned sender) false (accountsOf t)
   pub later-are : b .later ≡ marks (isTimely sender m) true (accountsOf t)
+  pub any-is : b .any ≡ some? (isOwned sender) (accountsOf t)

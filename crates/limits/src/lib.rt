@@ -7,7 +7,6 @@ ghost use Rattle.promise.specs.Promise.{Sound, Settled};
 use account::is_bank;
 use book::add_id;
 use branches::branches_of;
-use branches::has_branch;
 use changes::delete_limit;
 use changes::set_items;
 use command::Header;
@@ -46,7 +45,7 @@ pub fn change(
     let j = slot(i);
     let x = t.accounts[j];
     let b = branches_of(t, sender, header.day, header.second);
-    let head = is_bank(x) & has_branch(b);
+    let head = is_bank(x) & b.any;
     let formed = is_header(header) & is_count(n);
     let mut a = header_checks(formed, i < count, head, t.day, ids, used, header, &id);
     if a == 0 {
@@ -90,7 +89,7 @@ pub fn deletion(
     let j = slot(i);
     let x = t.accounts[j];
     let b = branches_of(t, sender, header.day, header.second);
-    let head = is_bank(x) & has_branch(b);
+    let head = is_bank(x) & b.any;
     let formed = is_header(header);
     let mut a = header_checks(formed, i < count, head, t.day, ids, used, header, &id);
     let code = named(&accounts, 0);

@@ -5,29 +5,32 @@ use mathlib.Core.Path.{_≡_, refl, sym, ap₂, _∙_}
 use mathlib.Core.Bool.{Bool, true, false, not, _||_}
 use Prim.Native.Nat.{_-_, _≤_, _<_}
 use lib.ListN.{length, take, length-set}
+use Rattle.rules.specs.Command.{some?}
 use Rattle.table.specs.View.{accountsOf}
 use Rattle.table.proofs.Places.{length-mapped}
 use Rattle.branches.specs.Marks.{marks, isOwned, isTimely}
-use Rattle.branches.proofs.Lookup.{marks-none, marks-at, marks-all}
+use Rattle.branches.proofs.Lookup.{marks-none, marks-at, marks-all, some-at, some-all}
 use Rattle.branches.proofs.branches_of.Statement.{statement}
 use Rattle.branches.proofs.branches_of.Tie as tie
 
 abbrev Inv-loop : tie.InvT-loop
-Inv-loop sender day second t n codes owned₀ later₀ i₀ owned later i =
+Inv-loop sender day second t n codes owned₀ later₀ any₀ i₀ owned later any i =
     (i ≤ n)
     × (length owned ≡ 64)
     × (length later ≡ 64)
     × (owned ≡ marks (isOwned sender) false (take i (accountsOf t)))
     × (later ≡ marks (isTimely sender (record { day = day; second = second })) true (take i (accountsOf t)))
+    × (any ≡ some? (isOwned sender) (take i (accountsOf t)))
 
 abbrev μ-loop : tie.MeasureT-loop
-μ-loop sender day second t n codes owned₀ later₀ i₀ owned later i = n - i
+μ-loop sender day second t n codes owned₀ later₀ any₀ i₀ owned later any i = n - i
 
 long : (s : tie.Start Inv-loop μ-loop) → length (s .args .t1 .accounts) ≡ 64
 long s = search (needs, length-mapped)
 
 loop-holds : tie.Need-loop-holds Inv-loop μ-loop
-loop-holds c = let xs = accountsOf (c .before .args .t1) in (omega arith, refl, refl, sym (marks-none _ _ xs), sym (marks-none _ _ xs))
+unfolding some?
+loop-holds c = let xs = accountsOf (c .before .args .t1) in (omega arith, refl, refl, sym (marks-none _ _ xs), sym (marks-none _ _ xs), refl)
 
 mul-x : tie.Need-mul-x Inv-loop μ-loop
 mul-x c = omega arith
@@ -65,6 +68,7 @@ loop-again c =
       simp length-set (l .loop .inv .2),
       marks-at _ _ t (s .pre) (long s) (l .loop .i) _ _ _ h (l .loop .inv .3) own,
       marks-at _ _ t (s .pre) (long s) (l .loop .i) _ _ _ h (l .loop .inv .4) (ap₂ (λ (o n : Bool). not o || n) own (c .is-later .ensures)),
+      some-at _ t (s .pre) (long s) (l .loop .i) _ _ _ h (l .loop .inv .5) own,
     )
 
 returns : tie.Need-returns Inv-loop μ-loop
@@ -76,6 +80,7 @@ returns c =
       codes-are = refl;
       owned-are = l .loop .inv .3 ∙ marks-all _ _ (s .args .t1) (s .pre) (long s) _ e;
       later-are = l .loop .inv .4 ∙ marks-all _ _ (s .args .t1) (s .pre) (long s) _ e;
+      any-is = l .loop .inv .5 ∙ some-all _ (s .args .t1) (s .pre) (long s) _ e;
     }
 
 pub branches-of-spec : {M : Type 1} → statement M

@@ -76,7 +76,7 @@ header-is c =
     let i = k .before .before .before .before .before .place in
     let j = k .before .before .before .before .slot in
     header-answer (s .args .t1) (good s) (long s) (s .args .header) (i .result) (j .result) (i .ensures) (j .ensures) _ _ _ (k .before .is-bank .ensures)
-    (k .has-branch .ensures _ _ (s .args .t1) (k .before .before .branches-of .ensures)) (s .args .t6) (s .args .ids .now) (s .args .days .now) (s .args .used) _ _ (c .before .before .before .before .is-header .ensures ∙ sym (formed s))
+    (k .before .before .branches-of .ensures .any-is) (s .args .t6) (s .args .ids .now) (s .args .days .now) (s .args .used) _ _ (c .before .before .before .before .is-header .ensures ∙ sym (formed s))
     _ (c .header-checks .ensures (s .args .days .now))
 
 answered : (c : tie.Joined1) → c .if1 .a ≡ answer (view (entry (c .before .before .before))) (lent 0 (asked (entry (c .before .before .before))))
@@ -124,9 +124,6 @@ branches-of-requires c κs = good (c .before .before .before .before .before)
 
 is-bank-requires : tie.Need-is-bank-requires
 is-bank-requires c κs = search needs
-
-has-branch-requires : tie.Need-has-branch-requires
-has-branch-requires c κs = search needs
 
 is-header-requires : tie.Need-is-header-requires
 is-header-requires c κs = search needs
@@ -203,7 +200,6 @@ deletion-spec =
     element-copy-out-x
     branches-of-requires
     is-bank-requires
-    has-branch-requires
     is-header-requires
     slice-aggregate-header-checks
     header-checks-requires
