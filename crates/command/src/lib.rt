@@ -1,10 +1,12 @@
 // Commands as values, parsed from a frame.
 ghost use mathlib.Core.Path.{_≡_};
-ghost use mathlib.Core.Bool.{true};
+ghost use mathlib.Core.Bool.{true, _&&_};
 ghost use Prim.Native.Nat.{ℕ, _+_, _*_, _≤_, _<_};
 ghost use lib.ListN.{length, getD};
 ghost use lib.IntN.{pos};
+ghost use lib.Dec.{leb};
 ghost use Rattle.octets.specs.Octets.{number, signed, part};
+ghost use Rattle.rules.specs.Command.{isCode};
 ghost use Rattle.rules.specs.Message.{decimal};
 ghost use Rattle.frame.specs.Frame.{isFrame, commandsOf};
 ghost use Rattle.command.specs.View.{ordered};
@@ -12,6 +14,7 @@ use digits::code_at;
 use frame::well_formed;
 use octets::i64_at;
 use octets::u32_at;
+use rules::is_code;
 use slices::copy;
 
 // Of a limit message: sender code, creation day and second; the id stands in the order's array.
@@ -43,6 +46,13 @@ pub struct Order {
     pub accounts: [u8; 160],
     pub types: [u8; 16],
     pub values: [i64; 16],
+}
+
+// Whether a header is in range: its id and its day always are.
+pub fn is_header(h: Header) -> bool
+    ensures { λ r. ⌜ r ≡ (isCode (h .sender) && leb (h .second) 86399) ⌝ }
+{
+    is_code(h.sender) & (h.second <= 86_399)
 }
 
 // A byte as a count.

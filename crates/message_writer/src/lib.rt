@@ -13,26 +13,19 @@ ghost use Rattle.frame.specs.Frame.{itemRow, itemValues, commandFrame};
 ghost use Rattle.frame.specs.Filled.{Filled};
 ghost use Rattle.command.specs.View.{toHeader, itemsFrom, idsFrom};
 use command::Header;
+use command::is_header;
 use field_writer::put_code;
 use octet_writer::put_byte;
 use octet_writer::put_i64;
 use octet_writer::put_u32;
-use rules::is_code;
 use rules::is_count;
 use slices::copy;
 
-// What a header's types leave open: six digits, and the second of a day.
-fn header_fits(h: Header) -> bool
-    ensures { λ r. ⌜ r ≡ (isCode (h .sender) && leb (h .second) 86399) ⌝ }
-{
-    is_code(h.sender) & (h.second <= 86399)
-}
-
-// The same of a message with n rows.
+// Whether a message with n rows is in range.
 fn rows_fit(h: Header, n: usize) -> bool
     ensures { λ r. ⌜ r ≡ ((isCode (h .sender) && leb (h .second) 86399) && isCount n) ⌝ }
 {
-    header_fits(h) & is_count(n)
+    is_header(h) & is_count(n)
 }
 
 // The kind and the header of a message.
@@ -95,7 +88,7 @@ pub fn write_deletion(
     requires { ⌜ 352 ≤ length (now frame) ⌝ }
     ensures { λ r. ⌜ Filled (commandFrame (Rule.Deletion (toHeader h id) (part 0 10 accounts) limit ∷ [])) (now (frame .entry)) (now (frame .exit)) r ⌝ }
 {
-    if !header_fits(h) {
+    if !is_header(h) {
         return 0;
     }
     put_header(8, h, id, frame);
