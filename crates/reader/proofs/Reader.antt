@@ -1,7 +1,7 @@
 -- Laws behind the frame reader: digits and their bytes, and when a line is a frame. Assumes nothing.
 use mathlib.Core.Path.{_≡_, refl, sym, ap, _∙_}
 use mathlib.Core.List.{List, [], _∷_, _++_}
-use mathlib.Core.Bool.{Bool, true, false, cond, _&&_, _||_, and-true, and-eq-true-iff}
+use mathlib.Core.Bool.{Bool, true, false, cond, _&&_, _||_, and-true}
 use Prim.Native.Nat.{ℕ, zero, suc, _+_, _-_, _*_, _/_, _%_, _<_, _≤_}
 use native.Mathlib.Omega.{arith}
 use native.Mathlib.Nat.{zero-add}
@@ -10,6 +10,7 @@ use borrow.Author.Tests.{le-leb, lt-leb, leb-true, eq-eqb, ne-eqb}
 use lib.ListN.{length, getD, take, drop, set, drop-of-length-le}
 use lib.Seq.{drop-cons, paste-suc, take-all, take-at}
 use lib.Dec.{leb}
+use Rattle.octets.proofs.Numbers.{both}
 use Rattle.rules.specs.Message.{isDigit}
 use Rattle.frame.specs.Hex.{nibble, isLetter, isHex, allHex, unhex}
 use Rattle.frame.specs.Frame.{isFrame, lineFrame, given, readFrame}
@@ -17,9 +18,6 @@ use Rattle.frame.proofs.Layouts.{frame-length}
 use Rattle.reader.specs.Unpacked.{isPacked, Unpacked}
 
 -- ---- tests
-
-both : (a b : Bool) → (a && b) ≡ true → (a ≡ true) × (b ≡ true)
-both a b = and-eq-true-iff a b .0
 
 both-false : (a : Bool) → (a && false) ≡ false
 both-false true = refl
