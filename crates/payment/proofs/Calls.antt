@@ -17,9 +17,9 @@ use Rattle.table.specs.Promise.{Good, call, Called}
 use Rattle.table.specs.View.{accountsOf, machineOf}
 use Rattle.table.proofs.Called.{declined}
 use Rattle.table.proofs.Stored.{Stored, stored-none, stored-called}
-use Rattle.payment.specs.declared.Transfer.{Transfer}
-use Rattle.payment.specs.declared.Found.{Found}
-use Rattle.payment.specs.Parts.{share}
+use Rattle.parties.specs.declared.Transfer.{Transfer}
+use Rattle.parties.specs.declared.Found.{Found}
+use Rattle.shares.specs.Share.{share}
 use Rattle.payment.proofs.Bookings.{bank-room, own-room, own-stored, owner-booked, paid}
 use Rattle.payment.proofs.Parties.{Party, outside, Sought, testsOf, asPayment, payer-party, payee-party, answered, amount-ok, parties-known}
 

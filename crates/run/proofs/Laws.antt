@@ -16,10 +16,10 @@ use Rattle.promise.specs.declared.Stepped.{Stepped}
 use Rattle.promise.specs.Promise.{Sound, Played}
 use Rattle.promise.specs.View.{viewOf, outcomeOf, nextOf}
 use Rattle.promise.proofs.Laws.{answer-small}
-use Rattle.text.specs.Text.{wholeLines, joined, printed}
+use Rattle.text.specs.Text.{NextIs, wholeLines, joined, printed}
 use Rattle.text.proofs.Laws.{next-line, next-whole, next-joined, printed-length}
 use Rattle.run.specs.Lines.{commandsIn, lineOutcome, lineNext, played, lineOutcomes, printedAll, printedLines, fitting}
-use Rattle.run.specs.Run.{NextIs, Passed}
+use Rattle.run.specs.Run.{Passed}
 use Rattle.run.proofs.Sequence.{played-snoc, printed-snoc}
 
 -- ---- a step on a line, with a report buffer of 913 bytes

@@ -15,7 +15,7 @@ use Rattle.octets.proofs.Numbers.{both}
 use Rattle.table.specs.declared.Table.{Table}
 use Rattle.table.specs.declared.Outcome.{Outcome}
 use Rattle.table.specs.Promise.{Called}
-use Rattle.payment.specs.declared.Transfer.{Transfer}
+use Rattle.parties.specs.declared.Transfer.{Transfer}
 use Rattle.payment.proofs.Parties.{asPayment}
 use Rattle.promise.specs.declared.Stepped.{Stepped}
 use Rattle.promise.specs.Promise.{Sound, Played}

@@ -1,19 +1,18 @@
 // A chunk of lines, played: the book is lent, and payments are booked in place, so that the table is copied for other commands alone.
-ghost use Prim.Native.Nat.{_≤_};
-ghost use lib.ListN.{length};
 ghost use Rattle.promise.specs.Promise.{Sound};
-ghost use Rattle.run.specs.Run.{NextIs, RanIs};
+ghost use Rattle.run.specs.Run.{RanIs};
 use asking::ask;
-use payment::bank_in;
-use payment::bank_out;
-use payment::bank_slot;
+use parties::bank_slot;
+use parties::find_parties;
 use payment::decide;
-use payment::find_parties;
-use payment::own_in;
-use payment::own_out;
 use reader::digit_values;
 use reader::unpack;
+use shares::bank_in;
+use shares::bank_out;
+use shares::own_in;
+use shares::own_out;
 use table::Table;
+use text::next_end;
 use transfer::transfer_at;
 
 // The record afterwards beside the lent book, how many bytes of the text were played, and how many were written.
@@ -22,17 +21,6 @@ pub struct Ran {
     pub used: usize,
     pub read: usize,
     pub written: usize,
-}
-
-// The end of the line that begins at `from`, or the text's length where no whole line or no room is left.
-fn next_end(lines: &[u8], from: usize, room: usize) -> usize
-    requires { ⌜ from ≤ length (now lines) ⌝ }
-    ensures { λ r. ⌜ NextIs (now (lines .entry)) from room r ⌝ }
-{
-    if room < 1829 {
-        return lines.len();
-    }
-    text::line_end(lines, from)
 }
 
 // Plays the whole lines of `lines` in order, as long as `out` has room for the longest answer line. A frame of 22 bytes is a payment's: it is booked here, on

@@ -1,8 +1,11 @@
 -- The lines of a text and the printed form of an answer (paper 01, "Frames"). Assumes nothing.
+use mathlib.Core.Path.{_≡_}
 use mathlib.Core.Bool.{cond}
+use mathlib.Core.Logic.{_⊎_}
 use mathlib.Core.List.{List, [], _∷_, _++_}
-use Prim.Native.Nat.{ℕ, suc, _+_, _/_, _%_}
+use Prim.Native.Nat.{ℕ, suc, _+_, _/_, _%_, _≤_, _<_}
 use lib.Dec.{eqb}
+use lib.ListN.{length, drop}
 use Rattle.frame.specs.Hex.{hex}
 
 -- how many bytes stand before the first line end, or in all where there is none
@@ -24,6 +27,12 @@ wholeLines (b ∷ t) = cond (eqb b 10) ([] ∷ wholeLines t) (push b (wholeLines
 unfoldable pub joined : List (List ℕ) → List ℕ
 joined [] = []
 joined (l ∷ ls) = (l ++ (10 ∷ [])) ++ joined ls
+
+-- the end of the line from the place `from` on, where there is one and room for the longest answer line: 2 digits, 2 for each of 913 bytes, the end
+pub record NextIs (input : List ℕ) (from room r : ℕ) : Type 0 where
+  pub within : r ≤ length input
+  pub found : r < length input → (r ≡ from + lineLength (drop from input)) × (1829 ≤ room)
+  pub done : length input ≤ r → (wholeLines (drop from input) ≡ []) ⊎ (room < 1829)
 
 -- the answer as two decimal digits, directly followed by the report in hexadecimal, and the line end
 unfoldable pub printed : ℕ → List ℕ → List ℕ

@@ -6,7 +6,7 @@ ghost use lib.Dec.{eqb};
 ghost use Rattle.rules.specs.Command.{some?};
 ghost use Rattle.octets.specs.Octets.{write};
 ghost use Rattle.frame.specs.Hex.{hexDigit, hex};
-ghost use Rattle.text.specs.Text.{lineLength, printed};
+ghost use Rattle.text.specs.Text.{lineLength, NextIs, printed};
 
 // Whether a line end stands among 32 bytes. The pass has no way out, so that the compiler takes several bytes at a time.
 fn has_end(block: &[u8]) -> bool
@@ -38,7 +38,7 @@ fn skip(s: &[u8], from: usize) -> usize
 }
 
 // The place of the first line end from `from` on, or the text's length where there is none.
-pub fn line_end(s: &[u8], from: usize) -> usize
+fn line_end(s: &[u8], from: usize) -> usize
     requires { ⌜ from ≤ length (now s) ⌝ }
     ensures { λ r. ⌜ r ≡ from + lineLength (drop from (now (s .entry))) ⌝ }
 {
@@ -50,6 +50,17 @@ pub fn line_end(s: &[u8], from: usize) -> usize
         i += 1;
     }
     i
+}
+
+// The end of the line that begins at `from`, or the text's length where no whole line or no room is left.
+pub fn next_end(lines: &[u8], from: usize, room: usize) -> usize
+    requires { ⌜ from ≤ length (now lines) ⌝ }
+    ensures { λ r. ⌜ NextIs (now (lines .entry)) from room r ⌝ }
+{
+    if room < 1829 {
+        return lines.len();
+    }
+    line_end(lines, from)
 }
 
 fn hex_digit(n: u8) -> u8

@@ -7,7 +7,7 @@ ghost use Rattle.rules.specs.Command as Rule;
 ghost use Rattle.frame.specs.Frame.{isFrame, commandsOf};
 use digits::code_at;
 use octets::i64_at;
-use payment::Transfer;
+use parties::Transfer;
 
 // The payment that a frame of 22 bytes holds: no other kind's has so many.
 pub fn transfer_at(b: &[u8]) -> Transfer

@@ -11,14 +11,15 @@ use Rattle.frame.specs.Frame.{lineFrame}
 use Rattle.table.specs.declared.Table.{Table}
 use Rattle.table.specs.Promise.{Good}
 use Rattle.table.proofs.Places.{length-mapped}
-use Rattle.payment.specs.declared.Transfer.{Transfer}
-use Rattle.payment.specs.declared.Found.{Found}
+use Rattle.parties.specs.declared.Transfer.{Transfer}
+use Rattle.parties.specs.declared.Found.{Found}
 use Rattle.payment.proofs.Parties.{Sought}
 use Rattle.payment.proofs.Calls.{Accepted, refused, taken, booked}
 use Rattle.promise.specs.View.{viewOf}
 use Rattle.promise.specs.Promise.{Sound}
 use Rattle.promise.proofs.Laws.{good-table}
-use Rattle.run.specs.Run.{NextIs, Passed}
+use Rattle.text.specs.Text.{NextIs}
+use Rattle.run.specs.Run.{Passed}
 use Rattle.run.proofs.Laws.{forward, fits}
 use Rattle.run.proofs.Turns.{frame-within, Long, Turned, turned, paid}
 use Rattle.run.proofs.run.Tie as tie

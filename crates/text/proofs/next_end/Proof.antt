@@ -1,9 +1,9 @@
 use mathlib.Core.Logic.{inl, inr}
 use native.Mathlib.Omega.{arith}
 use lib.ListN.{drop, length-drop}
 use Rattle.text.proofs.Laws.{length-line, no-line}
-use Rattle.run.proofs.next_end.Statement.{statement}
-use Rattle.run.proofs.next_end.Tie as tie
+use Rattle.text.proofs.next_end.Statement.{statement}
+use Rattle.text.proofs.next_end.Tie as tie
 
 returns : tie.Need-returns
 returns c = record { within = omega arith; found = λ h. absurd (omega arith); done = λ h. inr (c .if1 .taken) }

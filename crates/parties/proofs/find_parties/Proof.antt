@@ -1,7 +1,7 @@
 use borrow.Author.Needs.{needs}
 use Rattle.rules.specs.Payment.{payer, payee}
-use Rattle.payment.proofs.find_parties.Statement.{statement}
-use Rattle.payment.proofs.find_parties.Tie as tie
+use Rattle.parties.proofs.find_parties.Statement.{statement}
+use Rattle.parties.proofs.find_parties.Tie as tie
 
 party-place-requires : tie.Need-party-place-requires
 party-place-requires c κs = search needs

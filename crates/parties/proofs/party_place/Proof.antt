@@ -1,8 +1,8 @@
 use borrow.Author.Needs.{needs}
 use borrow.Author.Tests.{eq-eqb, ne-eqb}
 use Rattle.rules.specs.Payment.{isCredit}
-use Rattle.payment.proofs.party_place.Statement.{statement}
-use Rattle.payment.proofs.party_place.Tie as tie
+use Rattle.parties.proofs.party_place.Statement.{statement}
+use Rattle.parties.proofs.party_place.Tie as tie
 
 place-requires : tie.Need-place-requires
 place-requires c κs = search needs

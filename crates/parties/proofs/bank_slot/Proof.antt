@@ -1,8 +1,8 @@
 use borrow.Author.Needs.{needs}
 use Rattle.account.specs.View.{toAccount, toOwner}
-use Rattle.payment.specs.Parts.{bankPlace}
-use Rattle.payment.proofs.bank_slot.Statement.{statement}
-use Rattle.payment.proofs.bank_slot.Tie as tie
+use Rattle.parties.specs.Finding.{bankPlace}
+use Rattle.parties.proofs.bank_slot.Statement.{statement}
+use Rattle.parties.proofs.bank_slot.Tie as tie
 
 enum-told : tie.Need-enum-told
 enum-told c = search needs

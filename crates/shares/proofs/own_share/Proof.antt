@@ -1,7 +1,7 @@
 use borrow.Author.Needs.{needs}
-use Rattle.payment.specs.Parts.{share}
-use Rattle.payment.proofs.own_share.Statement.{statement}
-use Rattle.payment.proofs.own_share.Tie as tie
+use Rattle.shares.specs.Share.{share}
+use Rattle.shares.proofs.own_share.Statement.{statement}
+use Rattle.shares.proofs.own_share.Tie as tie
 
 is-bank-requires : tie.Need-is-bank-requires
 is-bank-requires c κs = search needs
