@@ -6,12 +6,12 @@ use Prim.Native.Nat.{ℕ, zero, suc, _+_, _*_, _-_, _/_, _%_, _≤_, _<_}
 use native.Mathlib.Numerals.{add-one}
 use native.Mathlib.Omega.{arith}
 use lib.Dec.{eqb}
-use lib.ListN.{length, take, drop, getD, set, length-append, length-drop, drop-of-length-le}
-use lib.Seq.{drop-cons, take-suc, length-take-le, take-at, drop-at, drop-drop, take-add}
+use lib.ListN.{length, take, drop, getD, set, length-append, length-drop}
+use lib.Seq.{drop-cons, take-suc, length-take-le, drop-drop, take-add}
 use borrow.Author.Tests.{eq-eqb, ne-eqb, eqb-true}
 use Rattle.rules.specs.Command.{some?}
 use Rattle.octets.specs.Octets.{write}
-use Rattle.octets.proofs.Places.{write-then, write-is}
+use Rattle.octets.proofs.Places.{write-then}
 use Rattle.frame.specs.Hex.{hexDigit, hex}
 use Rattle.text.specs.Text.{lineLength, push, wholeLines, joined, printed}
 
@@ -73,11 +73,6 @@ whole-none (b ∷ t) h = go (eqb b 10) (λ k. whole-none t k) h
         → cond q ([] ∷ wholeLines t) (push b (wholeLines t)) ≡ []
     go true r g = absurd (omega arith)
     go false r g = ap (push b) (r (omega arith))
-
--- behind the text's end there is no line
-pub whole-past : (s : List ℕ) (from : ℕ) → length s ≤ from → wholeLines (drop from s) ≡ []
-unfolding wholeLines
-whole-past s from h = rw (drop-of-length-le s h)
 
 -- the line's end stands behind it
 pub end-at : (s : List ℕ) → lineLength s < length s → take (suc (lineLength s)) s ≡ take (lineLength s) s ++ (10 ∷ [])
@@ -163,14 +158,6 @@ unfolding printed
 printed-length a r = omega (arith, length-append (hex r) (10 ∷ []), hex-length r)
 
 -- ---- what is written
-
--- bytes written behind what stands in front
-pub write-behind : (l p q : List ℕ) (k : ℕ) → length p ≡ k → k + length q ≤ length l → write (p ++ drop k l) k q ≡ (p ++ q) ++ drop (k + length q) l
-write-behind l p q k e h =
-    let room : k + length q ≤ length (p ++ drop k l) = simp (length-append, length-drop) (omega arith) in
-    let d : drop (k + length q) (p ++ drop k l) ≡ drop (k + length q) l =
-    sym (drop-drop (length q) k (p ++ drop k l)) ∙ ap (drop (length q)) (drop-at p (drop k l) k e) ∙ drop-drop (length q) k l in
-    rw (write-is (p ++ drop k l) k q room, d, take-at p (drop k l) k e, append-assoc)
 
 write-two : (l : List ℕ) (i j a b : ℕ) → j ≡ i + 1 → set (set l i a) j b ≡ write l i (a ∷ b ∷ [])
 unfolding write

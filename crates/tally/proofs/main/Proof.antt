@@ -61,6 +61,9 @@ part-buf-end c = search needs
 read-requires : tie.Need-read-requires Inv-loop μ-loop
 read-requires c κs = search needs
 
+tell-unread-requires : tie.Need-tell-unread-requires Inv-loop μ-loop
+tell-unread-requires c κs = search needs
+
 returns : tie.Need-returns Inv-loop μ-loop
 returns c = search needs
 
@@ -85,6 +88,9 @@ finish-requires : tie.Need-finish-requires Inv-loop μ-loop
 unfolding filled
 finish-requires c κs = let l = c .before .before .before .before .before .before .before .before .before .before .before .before .loop in (read-on (l .inv .0 .2) .0 .sound, omega (arith, whole (c .before .before .before .before .before .before .before), l .inv .2))
 
+tell-unwritten-requires : tie.Need-tell-unwritten-requires Inv-loop μ-loop
+tell-unwritten-requires c κs = search needs
+
 returns-2 : tie.Need-returns-2 Inv-loop μ-loop
 returns-2 c = search needs
 
@@ -98,6 +104,9 @@ slice-aggregate-feed c = sym (whole (c .before .before .before .before .before .
 feed-requires : tie.Need-feed-requires Inv-loop μ-loop
 unfolding filled
 feed-requires c κs = let l = c .before .before .before .before .before .before .before .before .before .before .before .before .loop in (read-on (l .inv .0 .2) .0 .sound, omega (arith, whole (c .before .before .before .before .before .before .before), most (c .before .before .before .before)))
+
+tell-unwritten-requires-2 : tie.Need-tell-unwritten-requires-2 Inv-loop μ-loop
+tell-unwritten-requires-2 c κs = search needs
 
 returns-3 : tie.Need-returns-3 Inv-loop μ-loop
 returns-3 c = search needs
@@ -137,6 +146,7 @@ main-spec =
     part-buf-start
     part-buf-end
     read-requires
+    tell-unread-requires
     returns
     sub-count
     part-count-start
@@ -144,10 +154,12 @@ main-spec =
     count-requires
     slice-aggregate-finish
     finish-requires
+    tell-unwritten-requires
     returns-2
     add-len
     slice-aggregate-feed
     feed-requires
+    tell-unwritten-requires-2
     returns-3
     sub-turns
     loop-less
