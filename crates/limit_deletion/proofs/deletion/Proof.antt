@@ -27,9 +27,9 @@ use Rattle.promise.specs.View.{viewOf, lent}
 use Rattle.promise.proofs.Laws.{good-table, settled-no}
 use Rattle.header.specs.Parts.{headerChecks}
 use Rattle.header.proofs.Parts.{header-answer, deletion-rest}
-use Rattle.limits.proofs.Calls.{header-fails, header-passes, room, taken}
-use Rattle.limits.proofs.deletion.Statement.{statement}
-use Rattle.limits.proofs.deletion.Tie as tie
+use Rattle.header.proofs.Calls.{header-fails, header-passes, room, taken}
+use Rattle.limit_deletion.proofs.deletion.Statement.{statement}
+use Rattle.limit_deletion.proofs.deletion.Tie as tie
 
 abbrev of : tie.Start → Header
 of s = toHeader (s .args .header) (s .args .t6)

@@ -27,9 +27,9 @@ use Rattle.promise.specs.View.{viewOf, lent}
 use Rattle.promise.proofs.Laws.{good-table, settled-no}
 use Rattle.header.specs.Parts.{headerChecks}
 use Rattle.header.proofs.Parts.{header-answer, change-rest}
-use Rattle.limits.proofs.Calls.{header-fails, header-passes, room, taken}
-use Rattle.limits.proofs.change.Statement.{statement}
-use Rattle.limits.proofs.change.Tie as tie
+use Rattle.header.proofs.Calls.{header-fails, header-passes, room, taken}
+use Rattle.limit_change.proofs.change.Statement.{statement}
+use Rattle.limit_change.proofs.change.Tie as tie
 
 abbrev of : tie.Start → Header
 of s = toHeader (s .args .header) (s .args .t6)
