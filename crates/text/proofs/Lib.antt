@@ -1,3 +1,4 @@
 pub mod Laws
+pub mod Next
 pub mod Chunks
 pub mod OneLine

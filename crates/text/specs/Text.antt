@@ -1,10 +1,8 @@
 -- The lines of a text and the printed form of an answer (paper 01, "Frames"). Assumes nothing.
-use mathlib.Core.Path.{_≡_}
 use mathlib.Core.Bool.{cond}
-use mathlib.Core.Logic.{_⊎_}
 use mathlib.Core.List.{List, [], _∷_, _++_}
-use Prim.Native.Nat.{ℕ, suc, _+_, _/_, _%_, _≤_, _<_}
-use lib.Dec.{eqb}
+use Prim.Native.Nat.{ℕ, suc, _+_, _/_, _%_}
+use lib.Dec.{leb, eqb}
 use lib.ListN.{length, drop}
 use Rattle.frame.specs.Hex.{hex}
 
@@ -28,11 +26,10 @@ unfoldable pub joined : List (List ℕ) → List ℕ
 joined [] = []
 joined (l ∷ ls) = (l ++ (10 ∷ [])) ++ joined ls
 
--- the end of the line from the place `from` on, where there is one and room for the longest answer line: 2 digits, 2 for each of 913 bytes, the end
-pub record NextIs (input : List ℕ) (from room r : ℕ) : Type 0 where
-  pub within : r ≤ length input
-  pub found : r < length input → (r ≡ from + lineLength (drop from input)) × (1829 ≤ room)
-  pub done : length input ≤ r → (wholeLines (drop from input) ≡ []) ⊎ (room < 1829)
+-- where the line that begins at the place `from` ends, if it has its end and there is room for the longest answer line, of 1,829 bytes: 2 digits, 2 for each
+-- of 913 bytes, the end. Else the text's length
+unfoldable pub nextEnd : List ℕ → ℕ → ℕ → ℕ
+nextEnd input from room = cond (leb 1829 room) (from + lineLength (drop from input)) (length input)
 
 -- the answer as two decimal digits, directly followed by the report in hexadecimal, and the line end
 unfoldable pub printed : ℕ → List ℕ → List ℕ

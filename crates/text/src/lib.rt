@@ -6,7 +6,7 @@ ghost use lib.Dec.{eqb};
 ghost use Rattle.rules.specs.Command.{some?};
 ghost use Rattle.octets.specs.Octets.{write};
 ghost use Rattle.frame.specs.Hex.{hexDigit, hex};
-ghost use Rattle.text.specs.Text.{lineLength, NextIs, printed};
+ghost use Rattle.text.specs.Text.{lineLength, nextEnd, printed};
 
 // Whether a line end stands among 32 bytes. The pass has no way out, so that the compiler takes several bytes at a time.
 fn has_end(block: &[u8]) -> bool
@@ -55,7 +55,7 @@ fn line_end(s: &[u8], from: usize) -> usize
 // The end of the line that begins at `from`, or the text's length where no whole line or no room is left.
 pub fn next_end(lines: &[u8], from: usize, room: usize) -> usize
     requires { ⌜ from ≤ length (now lines) ⌝ }
-    ensures { λ r. ⌜ NextIs (now (lines .entry)) from room r ⌝ }
+    ensures { λ r. ⌜ r ≡ nextEnd (now (lines .entry)) from room ⌝ }
 {
     if room < 1829 {
         return lines.len();

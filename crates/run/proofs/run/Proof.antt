@@ -8,6 +8,7 @@ use lib.ListN.{length}
 use Rattle.table.proofs.Places.{length-mapped}
 use Rattle.payment.proofs.Parties.{all-sized}
 use Rattle.payment.proofs.Calls.{out-room, own-out-room, in-room, own-in-room}
+use Rattle.text.proofs.Next.{next-is}
 use Rattle.run.proofs.Laws.{small, same-report, begin, turn, all-chosen}
 use Rattle.run.proofs.Turns.{frame-long, frame-formed, query-formed}
 use Rattle.run.proofs.run.Proof.Loop.{Inv-loop, μ-loop, ahead, roomy, at, line, within, table, sound, good, long, front, sought, sides, accepted, last, last2, last3, last4, went}
@@ -25,7 +26,7 @@ loop-holds c =
     let s = c .before .before .before .before in
     let z : length (s .args .out .now) - 0 ≡ length (s .args .out .now) = omega arith in (
       begin (s .args .lines .now) (s .args .out .now) _ _ _ _ (s .pre),
-      rw z (c .next-end .ensures),
+      rw z (next-is (s .args .lines .now) 0 _ _ (omega arith) (c .next-end .ensures)),
       refl,
       search needs,
       search needs,
@@ -218,7 +219,7 @@ loop-again c =
     let p = turn _ _ _ _ _ _ _ _ _ _ _ (v .before .loop .inv .0) (v .before .loop .inv .1) (v .loop-test .taken) _ _ _ _ _ _ _ _ refl (v .before .loop .inv .3) (went g .played) (w .ensures) in
     let same : length (w .last .0) ≡ length (v .before .before .before .before .before .before .args .out .now) = w .kept .0 ∙ v .before .loop .inv .2 in (
       p,
-      rw same at (c .next-end2 .ensures),
+      rw same at (next-is _ _ _ _ (omega (arith, v .loop-test .taken)) (c .next-end2 .ensures)),
       same,
       same-report _ _ _ _ _ _ _ _ _ _ (went g .played) ∙ v .before .loop .inv .3,
       g .before .before .unpack .kept .1 .0 ∙ v .before .loop .inv .4,

@@ -1,25 +1,29 @@
-use mathlib.Core.Logic.{inl, inr}
+-- The end of a line where there is room, the text's length where there is none. Assumes nothing.
+use mathlib.Core.Path.{sym, ap, _∙_}
+use mathlib.Core.Bool.{Bool, cond}
+use Prim.Native.Nat.{_+_}
 use native.Mathlib.Omega.{arith}
-use lib.ListN.{drop, length-drop}
-use Rattle.text.proofs.Laws.{length-line, no-line}
+use borrow.Author.Tests.{le-leb, lt-leb}
+use lib.ListN.{length, drop}
+use Rattle.text.specs.Text.{lineLength, nextEnd}
 use Rattle.text.proofs.next_end.Statement.{statement}
 use Rattle.text.proofs.next_end.Tie as tie
 
 returns : tie.Need-returns
-returns c = record { within = omega arith; found = λ h. absurd (omega arith); done = λ h. inr (c .if1 .taken) }
+unfolding nextEnd
+returns c =
+    let a = c .before .before .args in
+    sym (ap (λ (b : Bool). cond b (a .from + lineLength (drop (a .from) (a .lines .now))) (length (a .lines .now))) (lt-leb 1829 (a .room) (c .if1 .taken)))
 
 line-end-requires : tie.Need-line-end-requires
 line-end-requires c κs = omega arith
 
 returns-2 : tie.Need-returns-2
+unfolding nextEnd
 returns-2 c =
     let a = c .before .before .before .args in
-    let s = a .lines .now in
-    record {
-      within = omega (arith, length-line (drop (a .from) s), length-drop (a .from) s);
-      found = λ h. (c .line-end .ensures, c .before .if1 .left);
-      done = λ h. inl (no-line s (a .from) _ (c .line-end .ensures) h);
-    }
+    c .line-end .ensures
+    ∙ sym (ap (λ (b : Bool). cond b (a .from + lineLength (drop (a .from) (a .lines .now))) (length (a .lines .now))) (le-leb 1829 (a .room) (c .before .if1 .left)))
 
 pub next-end-spec : {M : Type 1} → statement M
 next-end-spec = tie.close (tie.spec returns line-end-requires returns-2)

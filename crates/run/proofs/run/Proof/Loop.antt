@@ -18,7 +18,7 @@ use Rattle.payment.proofs.Calls.{Accepted, refused, taken, booked}
 use Rattle.promise.specs.View.{viewOf}
 use Rattle.promise.specs.Promise.{Sound}
 use Rattle.promise.proofs.Laws.{good-table}
-use Rattle.text.specs.Text.{NextIs}
+use Rattle.text.proofs.Next.{NextIs}
 use Rattle.run.specs.Run.{Passed}
 use Rattle.run.proofs.Laws.{forward, fits}
 use Rattle.run.proofs.Turns.{frame-within, Long, Turned, turned, paid}
