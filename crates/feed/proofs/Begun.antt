@@ -6,7 +6,7 @@ use Prim.Native.Nat.{ℕ, suc, zero, _+_, _≤_}
 use native.Mathlib.Omega.{arith}
 use lib.Dec.{eqb}
 use lib.ListN.{length, take, drop, take-append-drop, length-append}
-use lib.Seq.{take-nil, drop-append-add, length-take-le}
+use lib.Seq.{take-nil, drop-drop, drop-append-add, length-take-le}
 use borrow.Author.Tests.{eqb-true}
 use Rattle.text.specs.Text.{push, wholeLines, joined}
 use Rattle.text.proofs.Laws.{joined-append}
@@ -36,15 +36,21 @@ no-more ls (l ∷ more) e = absurd (omega (arith, ap (λ (m : List (List ℕ)). 
 pub none-begun : (s : List ℕ) → wholeLines (begun s) ≡ []
 none-begun s = no-more (wholeLines s) (wholeLines (begun s)) (ap wholeLines (sym (in-two s)) ∙ whole-joined (wholeLines s) (begun s) (clean-whole s))
 
--- a text that is played to its last line end
-module _ (s : List ℕ) (ls : List (List ℕ)) (read : ℕ) (within : read ≤ length s) (taken : joined ls ≡ take read s) (rest : wholeLines s ≡ ls ++ wholeLines (drop read s))
-    (none : wholeLines (drop read s) ≡ []) where
-  pub all-lines : wholeLines s ≡ ls
-  all-lines = rest ∙ ap (λ (m : List (List ℕ)). ls ++ m) none ∙ append-nil ls
-
-  pub rest-begun : drop read s ≡ begun s
+-- a text whose first lines are played: behind them stands the same begun line
+module _ (s : List ℕ) (ls : List (List ℕ)) (read : ℕ) (within : read ≤ length s) (taken : joined ls ≡ take read s) (rest : wholeLines s ≡ ls ++ wholeLines (drop read s)) where
+  pub rest-begun : begun (drop read s) ≡ begun s
   unfolding begun
-  rest-begun = ap (λ n. drop n s) (sym (ap (λ (m : List (List ℕ)). length (joined m)) all-lines ∙ ap length taken ∙ length-take-le read s within))
+  rest-begun =
+      let d = drop read s in
+      let n : length (joined (wholeLines s)) ≡ read + length (joined (wholeLines d)) =
+      ap (λ (m : List (List ℕ)). length (joined m)) rest ∙ ap length (joined-append ls (wholeLines d)) ∙ length-append (joined ls) (joined (wholeLines d))
+      ∙ ap (λ k. k + length (joined (wholeLines d))) (ap length taken ∙ length-take-le read s within) in
+      drop-drop (length (joined (wholeLines d))) read s ∙ ap (λ k. drop k s) (sym n)
+
+-- a text without a line end is a begun line
+pub all-begun : (s : List ℕ) → wholeLines s ≡ [] → begun s ≡ s
+unfolding begun joined
+all-begun s e = ap (λ (ls : List (List ℕ)). drop (length (joined ls)) s) e
 
 -- ---- a text that is read further
 

@@ -1,15 +1,18 @@
--- Laws of the buffer: what is kept of its text, and the text with its last end. Assumes nothing.
-use mathlib.Core.Path.{_≡_, sym, ap, _∙_}
-use mathlib.Core.List.{List, _++_, append-assoc}
-use Prim.Native.Nat.{ℕ, zero, suc, _+_, _-_, _≤_, _<_}
+-- Laws of the buffer: what is left of its text. Assumes nothing.
+use mathlib.Core.Path.{_≡_, refl, sym, ap, ap₂, _∙_}
+use mathlib.Core.Bool.{Bool, true, false, cond}
+use mathlib.Core.List.{List}
+use Prim.Native.Nat.{ℕ, _+_, _-_, _≤_}
 use native.Mathlib.Omega.{arith}
-use lib.ListN.{length, take, drop, length-append, length-drop}
-use lib.Seq.{take-add, take-at, drop-at, length-take-le}
-use Rattle.octets.specs.Octets.{part, write}
-use Rattle.octets.proofs.Places.{part-length, write-is}
-use Rattle.kept_text.specs.Kept.{cutLength, lastEnd}
-use Rattle.kept_text.proofs.Laws.{cut-most, cut-take}
-use Rattle.feed.specs.Feed.{keptOf}
+use lib.Dec.{eqb}
+use lib.ListN.{length, take, drop}
+use lib.Seq.{take-add, drop-at, length-take-le}
+use borrow.Author.Tests.{eqb-true}
+use Rattle.octets.specs.Octets.{part}
+use Rattle.octets.proofs.Places.{part-length}
+use Rattle.kept_text.specs.Kept.{cutLength, keptLength}
+use Rattle.kept_text.proofs.Laws.{cut-take, kept-most}
+use Rattle.feed.specs.Feed.{leftOf}
 
 module _ (buf : List ℕ) (read len : ℕ) (h : read ≤ len) (room : len ≤ length buf) where
   behind : drop read (take len buf) ≡ take (len - read) (drop read buf)
@@ -18,20 +21,16 @@ module _ (buf : List ℕ) (read len : ℕ) (h : read ≤ len) (room : len ≤ le
       ap (λ j. drop read (take j buf)) e ∙ ap (drop read) (take-add read (len - read) buf)
       ∙ drop-at (take read buf) (take (len - read) (drop read buf)) read (length-take-le read buf (omega arith))
 
-  pub kept-bytes : part read (cutLength (len - read)) buf ≡ keptOf (take len buf) read
-  unfolding part
-  kept-bytes = cut-take (len - read) (drop read buf) (omega (arith, length-drop read buf)) ∙ ap (take 1024) (sym behind)
+  pub left-bytes : part read (keptLength read (len - read)) buf ≡ leftOf (take len buf) read
+  unfolding part keptLength
+  left-bytes = go (eqb read 0) refl
+    where
+      go : (q : Bool) → eqb read 0 ≡ q → take (cond q (cutLength (len - read)) (len - read)) (drop read buf) ≡ cond q (take 1024 (take len buf)) (drop read (take len buf))
+      go true e =
+          let z : read ≡ 0 = eqb-true read 0 e in
+          let n : len - read ≡ len = omega (arith, z) in
+          ap₂ (λ j k. take (cutLength j) (drop k buf)) n z ∙ cut-take len buf room
+      go false e = sym behind
 
-  pub kept-count : cutLength (len - read) ≡ length (keptOf (take len buf) read)
-  kept-count = sym (part-length read (cutLength (len - read)) buf (omega (arith, cut-most (len - read)))) ∙ ap length kept-bytes
-
-pub last-within : (kept n : ℕ) → kept < n → kept + length (lastEnd kept) ≤ n
-unfolding lastEnd
-last-within zero n h = omega arith
-last-within (suc k) n h = omega arith
-
--- what stands up to the last byte written
-pub written-front : (l bs : List ℕ) (i : ℕ) → i + length bs ≤ length l → take (i + length bs) (write l i bs) ≡ take i l ++ bs
-written-front l bs i h =
-    ap (take (i + length bs)) (write-is l i bs h ∙ sym (append-assoc (take i l) bs (drop (i + length bs) l)))
-    ∙ take-at (take i l ++ bs) (drop (i + length bs) l) (i + length bs) (omega (arith, length-append (take i l) bs, length-take-le i l (omega arith)))
+  pub left-count : keptLength read (len - read) ≡ length (leftOf (take len buf) read)
+  left-count = sym (part-length read (keptLength read (len - read)) buf (omega (arith, kept-most read (len - read)))) ∙ ap length left-bytes

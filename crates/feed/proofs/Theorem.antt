@@ -1,89 +1,151 @@
--- However the input is cut into reads, its lines are played as if it had come at once. Assumes nothing.
+-- However the input is cut into reads, its lines are answered as if it had come at once. Assumes nothing.
 use mathlib.Core.Path.{_≡_, refl, sym, ap, ap₂, _∙_}
-use mathlib.Core.Bool.{true}
-use mathlib.Core.List.{List, [], _∷_, _++_, map-append}
-use Prim.Native.Nat.{ℕ}
+use mathlib.Core.Bool.{Bool, true, false, cond}
+use mathlib.Core.Logic.{⊎-elim}
+use mathlib.Core.List.{List, [], _∷_, _++_, append-assoc, append-nil, map-append}
+use Prim.Native.Nat.{ℕ, _+_, _≤_}
 use native.Mathlib.Omega.{arith}
+use lib.Dec.{eqb}
 use lib.ListN.{length, take, drop, length-drop, length-take}
-use lib.Seq.{length-take-le}
+use lib.Seq.{take-take}
+use borrow.Author.Tests.{eqb-true}
 use Rattle.rules.specs.Command.{Command}
+use Rattle.rules.specs.Machine.{empty}
 use Rattle.table.specs.declared.Table.{Table}
-use Rattle.text.specs.Text.{wholeLines, joined}
+use Rattle.promise.specs.View.{viewOf}
+use Rattle.text.specs.Text.{wholeLines, answerRoom}
+use Rattle.text.proofs.Laws.{joined-none}
 use Rattle.kept_text.specs.Kept.{lastEnd}
-use Rattle.run.specs.Lines.{commandsIn}
+use Rattle.run.specs.declared.Ran.{Ran}
+use Rattle.run.specs.Lines.{commandsIn, lineOutcomes, printedAll, printedLines}
 use Rattle.run.specs.Program.{Reached}
-use Rattle.run.proofs.Program.{fresh-reached, reached-on, front}
-use Rattle.stream.specs.declared.Drained.{Drained}
-use Rattle.stream.specs.Stream.{DrainedIs}
+use Rattle.run.specs.Run.{RanIs}
+use Rattle.run.proofs.Sequence.{printed-append}
+use Rattle.run.proofs.Program.{fresh-reached, run-reached, wrote, front}
 use Rattle.feed.specs.declared.Fed.{Fed}
-use Rattle.feed.specs.Feed.{FedIs, keptOf}
-use Rattle.feed.specs.Reads.{begun, inputLines, Reads, start, next, ReadsAtOnce, InputAtOnce}
-use Rattle.feed.proofs.Alike.{held, at-once}
-use Rattle.feed.proofs.Begun.{all-lines, rest-begun, lines-on, begun-on, none-begun}
+use Rattle.feed.specs.Feed.{FedIs, textOf, leftOf}
+use Rattle.feed.specs.Reads.{begun, inputLines, Reads, start, next, ReadsAnswered, InputAnswered, SameEnd, NoneLeft}
+use Rattle.feed.proofs.Alike.{held, answered}
+use Rattle.feed.proofs.Begun.{all-begun, rest-begun, lines-on, begun-on, none-begun, none-take}
 use Rattle.feed.proofs.Keeping.{kept-same}
 
--- a text drained behind the lines ls of the input: what is kept of the input's begun line, and bytes of the input behind it
-module _ (ls : List (List ℕ)) (kept input text bytes : List ℕ) (same : held ls ≡ held (wholeLines input)) (is-kept : kept ≡ take 1024 (begun input))
-    (is : text ≡ kept ++ bytes) {t : Table} {ids days : List ℕ} {used : ℕ} {r : Drained} {ids′ days′ : List ℕ} (d : DrainedIs t ids days used text r ids′ days′) (ok : r .ok ≡ true) where
-  on-text : text ≡ take 1024 (begun input) ++ bytes
-  on-text = is ∙ ap (λ (l : List ℕ). l ++ bytes) is-kept
+-- ---- a run over a text, and what is left of it
 
-  pub on-held : held (ls ++ d .upto .lines) ≡ held (wholeLines (input ++ bytes))
-  on-held =
-      let u = d .upto in
-      map-append commandsIn ls (u .lines)
-      ∙ ap₂ (λ (a b : List (List Command)). a ++ b) same (ap held (sym (all-lines text (u .lines) (r .read) (u .within) (u .taken) (u .rest) (d .all ok)) ∙ ap wholeLines on-text) ∙ kept-same (begun input) bytes (none-begun input) .0)
-      ∙ sym (map-append commandsIn (wholeLines input) (wholeLines (begun input ++ bytes))) ∙ ap held (sym (lines-on input bytes))
+module _ (text : List ℕ) {t : Table} {ids days : List ℕ} {used : ℕ} {out ids′ days′ out′ : List ℕ} {r : Ran} (room : answerRoom ≤ length out)
+    (p : RanIs t ids days used text out r ids′ days′ out′) where
+  -- where nothing was played, there is no whole line
+  none : r .read ≡ 0 → wholeLines text ≡ []
+  unfolding printedLines printedAll lineOutcomes
+  none e =
+      let q = p .passed in
+      let no-line : q .lines ≡ [] = joined-none (q .lines) (ap length (q .text ∙ ap (λ (n : ℕ). take n text) e)) in
+      let no-byte : r .written ≡ 0 = sym (q .long) ∙ ap (λ (ls : List (List ℕ)). length (printedLines (viewOf t ids days used) ls)) no-line in
+      ⊎-elim (λ s. q .rest ∙ ap₂ (λ (a b : List (List ℕ)). a ++ b) no-line s) (λ s. absurd (omega (arith, s, no-byte, room))) (p .stop)
 
-  pub on-kept : keptOf text (r .read) ≡ take 1024 (begun (input ++ bytes))
-  on-kept =
-      let u = d .upto in
-      ap (take 1024) (rest-begun text (u .lines) (r .read) (u .within) (u .taken) (u .rest) (d .all ok) ∙ ap begun on-text)
+  left-lines : wholeLines (leftOf text (r .read)) ≡ wholeLines (drop (r .read) text)
+  left-lines = go (eqb (r .read) 0) refl
+    where
+      go : (b : Bool) → eqb (r .read) 0 ≡ b → wholeLines (cond b (take 1024 text) (drop (r .read) text)) ≡ wholeLines (drop (r .read) text)
+      go true e =
+          let z = eqb-true (r .read) 0 e in
+          none-take text 1024 (none z) ∙ sym (ap (λ k. wholeLines (drop k text)) z ∙ none z)
+      go false e = refl
+
+  left-begun : take 1024 (begun (leftOf text (r .read))) ≡ take 1024 (begun text)
+  left-begun = go (eqb (r .read) 0) refl
+    where
+      go : (b : Bool) → eqb (r .read) 0 ≡ b → take 1024 (begun (cond b (take 1024 text) (drop (r .read) text))) ≡ take 1024 (begun text)
+      go true e =
+          let h = none (eqb-true (r .read) 0 e) in
+          ap (take 1024) (all-begun (take 1024 text) (none-take text 1024 h)) ∙ take-take 1024 1024 text (omega arith) ∙ ap (take 1024) (sym (all-begun text h))
+      go false e = ap (take 1024) (rest-begun text (p .passed .lines) (r .read) (p .passed .within) (p .passed .text) (p .passed .rest))
+
+-- what is left stands in front of the buffer
+pub fed-left : {s : Fed} {ids days buf : List ℕ} {n : ℕ} {out : List ℕ} {r : Fed} {ids′ days′ buf′ out′ : List ℕ} → FedIs s ids days buf n out r ids′ days′ buf′ out′
+    → take (r .left) buf′ ≡ leftOf (textOf s buf n) (r .read)
+fed-left {s} {buf = buf} {n} {r = r} p =
+    let text = textOf s buf n in
+    ap₂ (λ (k : ℕ) (l : List ℕ). take k l) (p .count) (p .bytes) ∙ front buf (leftOf text (r .read)) (go (eqb (r .read) 0))
+  where
+    go : (b : Bool) → length (cond b (take 1024 (take (s .left + n) buf)) (drop (r .read) (take (s .left + n) buf))) ≤ length buf
+    go true = omega (arith, length-take 1024 (take (s .left + n) buf), length-take (s .left + n) buf)
+    go false = omega (arith, length-drop (r .read) (take (s .left + n) buf), length-take (s .left + n) buf)
+
+pub none-left : NoneLeft
+none-left s ids days buf n out r ids′ days′ buf′ out′ p room e =
+    let text = textOf s buf n in
+    ap wholeLines (fed-left p) ∙ left-lines text room (p .ran) ∙ ap (λ k. wholeLines (drop k text)) e ∙ none text room (p .ran) e
+
+-- ---- any number of calls
+
+-- the lines played, of which the answer bytes are; with the whole lines that are left they hold what the input's hold, and the begun line is the same
+pub record Sofar (t : Table) (ids days : List ℕ) (used : ℕ) (left input answers : List ℕ) : Type 0 where
+  pub lines : List (List ℕ)
+  pub reached : Reached lines t ids days used
+  pub printed : answers ≡ printedLines empty lines
+  pub same : held (lines ++ wholeLines left) ≡ held (wholeLines input)
+  pub kept : take 1024 (begun left) ≡ take 1024 (begun input)
+
+-- bytes read behind what is left, and behind the input
+module _ (left input bytes : List ℕ) (kept : take 1024 (begun left) ≡ take 1024 (begun input)) where
+  more-held : held (wholeLines (begun left ++ bytes)) ≡ held (wholeLines (begun input ++ bytes))
+  more-held =
+      sym (kept-same (begun left) bytes (none-begun left) .0) ∙ ap (λ (l : List ℕ). held (wholeLines (l ++ bytes))) kept
+      ∙ kept-same (begun input) bytes (none-begun input) .0
+
+  more-begun : take 1024 (begun (left ++ bytes)) ≡ take 1024 (begun (input ++ bytes))
+  more-begun =
+      ap (take 1024) (begun-on left bytes) ∙ sym (kept-same (begun left) bytes (none-begun left) .1) ∙ ap (λ (l : List ℕ). take 1024 (begun (l ++ bytes))) kept
       ∙ kept-same (begun input) bytes (none-begun input) .1 ∙ ap (take 1024) (sym (begun-on input bytes))
 
-  pub on-reached : Reached ls t ids days used → Reached (ls ++ d .upto .lines) (r .table) ids′ days′ (r .used)
-  on-reached q = reached-on ls (d .upto .lines) t (r .table) ids days ids′ days′ used (r .used) q (d .upto .sound) (d .upto .state)
+  more-lines : (lines : List (List ℕ)) → held (lines ++ wholeLines left) ≡ held (wholeLines input) → held (lines ++ wholeLines (left ++ bytes)) ≡ held (wholeLines (input ++ bytes))
+  more-lines lines same =
+      let a = wholeLines (begun left ++ bytes) in
+      ap (λ (ls : List (List ℕ)). held (lines ++ ls)) (lines-on left bytes) ∙ ap held (sym (append-assoc lines (wholeLines left) a))
+      ∙ map-append commandsIn (lines ++ wholeLines left) a ∙ ap₂ (λ (x y : List (List Command)). x ++ y) same more-held
+      ∙ sym (map-append commandsIn (wholeLines input) (wholeLines (begun input ++ bytes))) ∙ ap held (sym (lines-on input bytes))
 
--- what is kept in front of the buffer
-pub fed-kept : {t : Table} {ids days : List ℕ} {used : ℕ} {buf : List ℕ} {len : ℕ} {r : Fed} {ids′ days′ buf′ : List ℕ} → FedIs t ids days used buf len r ids′ days′ buf′
-    → take (r .kept) buf′ ≡ keptOf (take len buf) (r .read)
-fed-kept {buf = buf} {len} {r} p =
-    let text = take len buf in
-    ap₂ (λ (n : ℕ) (l : List ℕ). take n l) (p .count) (p .bytes)
-    ∙ front buf (keptOf text (r .read)) (omega (arith, length-take 1024 (drop (r .read) text), length-drop (r .read) text, length-take len buf))
+pub sofar : {t : Table} {ids days : List ℕ} {used : ℕ} {left input answers : List ℕ} → Reads t ids days used left input answers → Sofar t ids days used left input answers
+unfolding printedLines printedAll lineOutcomes
+sofar (start {l} g e) = record { lines = []; reached = fresh-reached l g e; printed = refl; same = refl; kept = refl }
+sofar (next {s} {ids} {days} {left} {input} {answers} {buf} {out} {ids′} {days′} {buf′} {out′} {n} {r} q bytes is room p) =
+    let h = sofar q in
+    let d = p .ran .passed in
+    let text = textOf s buf n in
+    record {
+      lines = h .lines ++ d .lines;
+      reached = run-reached (p .ran) (h .lines) (h .reached);
+      printed =
+          ap₂ _++_ (h .printed) (wrote (p .ran) ∙ ap (λ m. printedLines m (d .lines)) (h .reached .state)) ∙ sym (printed-append empty (h .lines) (d .lines));
+      same =
+          ap (λ (ls : List (List ℕ)). held ((h .lines ++ d .lines) ++ ls)) (ap wholeLines (fed-left p) ∙ left-lines text room (p .ran))
+          ∙ ap held (append-assoc (h .lines) (d .lines) (wholeLines (drop (r .read) text)) ∙ ap (λ (ls : List (List ℕ)). h .lines ++ ls) (sym (d .rest) ∙ ap wholeLines is))
+          ∙ more-lines left input bytes (h .kept) (h .lines) (h .same);
+      kept =
+          ap (λ (l : List ℕ). take 1024 (begun l)) (fed-left p) ∙ left-begun text room (p .ran) ∙ ap (λ (l : List ℕ). take 1024 (begun l)) is
+          ∙ more-begun left input bytes (h .kept);
+    }
 
--- ---- any number of reads
-
-pub read-on : {t : Table} {ids days : List ℕ} {used : ℕ} {kept input : List ℕ} {ls : List (List ℕ)} → Reads t ids days used kept input ls
-    → (Reached ls t ids days used) × (held ls ≡ held (wholeLines input)) × (kept ≡ take 1024 (begun input))
-unfolding begun wholeLines joined
-read-on (start {l} g e) = (fresh-reached l g e, refl, refl)
-read-on (next {t} {ids} {days} {used} {kept} {input} {ls} {buf} {len} {r} {ids′} {days′} {buf′} q bytes is p ok) =
-    let h = read-on q in (
-      on-reached ls kept input (take len buf) bytes (h .1) (h .2) is (p .drained) ok (h .0),
-      on-held ls kept input (take len buf) bytes (h .1) (h .2) is (p .drained) ok,
-      fed-kept p ∙ on-kept ls kept input (take len buf) bytes (h .1) (h .2) is (p .drained) ok,
-    )
-
-pub reads-at-once : ReadsAtOnce
-reads-at-once t ids days used kept input ls q = let h = read-on q in (at-once ls (wholeLines input) (h .1) (h .0), h .2)
+pub reads-answered : ReadsAnswered
+reads-answered t ids days used left input answers q none =
+    let h = sofar q in
+    let all : held (h .lines) ≡ held (wholeLines input) =
+    ap held (sym (append-nil (h .lines))) ∙ ap (λ (ls : List (List ℕ)). held (h .lines ++ ls)) (sym none) ∙ h .same in
+    (answered (h .lines) (wholeLines input) answers all (h .reached) (h .printed), ap (take 1024) (sym (all-begun left none)) ∙ h .kept)
 
 -- ---- the end of the input
 
--- a begun line has a byte where what is kept of it has one
+pub input-answered : InputAnswered
+unfolding inputLines
+input-answered t ids days used left input answers q none =
+    reads-answered t ids days used left (input ++ lastEnd (length (begun input))) answers q none .0
+
+-- a begun line has a byte where its first bytes have one
 last-same : (l : List ℕ) → lastEnd (length (take 1024 l)) ≡ lastEnd (length l)
 unfolding lastEnd
 last-same [] = refl
 last-same (x ∷ l) = refl
 
-pub input-at-once : InputAtOnce
-unfolding inputLines
-input-at-once t ids days used input ls buf kept r ids′ days′ buf′ q within p ok =
-    let h = read-on q in
-    let d = p .drained in
-    let text = take kept buf ++ lastEnd kept in
-    let end : lastEnd kept ≡ lastEnd (length (begun input)) =
-    ap lastEnd (sym (length-take-le kept buf (omega arith))) ∙ ap (λ (l : List ℕ). lastEnd (length l)) (h .2) ∙ last-same (begun input) in
-    at-once (ls ++ d .upto .lines) (wholeLines (input ++ lastEnd (length (begun input))))
-    (on-held ls (take kept buf) input text (lastEnd kept) (h .1) (h .2) refl d ok ∙ ap (λ (l : List ℕ). held (wholeLines (input ++ l))) end)
-    (on-reached ls (take kept buf) input text (lastEnd kept) (h .1) (h .2) refl d ok (h .0))
+pub same-end : SameEnd
+same-end t ids days used left input answers q none =
+    sym (last-same left) ∙ ap (λ (l : List ℕ). lastEnd (length l)) (reads-answered t ids days used left input answers q none .1) ∙ last-same (begun input)

@@ -1,22 +1,21 @@
--- The input in however many reads, each as the contract of `feed` says, and its end as that of `finish`: the lines are played as if the input had come at
--- once. Assumes nothing.
+-- The input in however many reads, each call as the contract of `feed` says: the answer bytes of all calls, joined, are the history machine's answer lines to
+-- the lines of the input, and demand 3 holds of what these bytes say. Assumes nothing.
 use mathlib.Core.Path.{_≡_}
-use mathlib.Core.Bool.{true}
 use mathlib.Core.List.{List, [], _++_}
-use Prim.Native.Nat.{ℕ, _<_}
+use Prim.Native.Nat.{ℕ, _≤_}
 use lib.ListN.{length, take, drop}
-use Rattle.rules.specs.Machine.{empty}
+use Rattle.rules.specs.Demand.{Demand}
+use Rattle.rules.specs.Machine.{empty, Outcome}
 use Rattle.table.specs.declared.Table.{Table}
 use Rattle.promise.specs.declared.Ledger.{Ledger}
 use Rattle.promise.specs.Promise.{SoundLedger}
-use Rattle.promise.specs.View.{ledgerView}
-use Rattle.text.specs.Text.{wholeLines, joined}
+use Rattle.promise.specs.View.{viewOf, ledgerView}
+use Rattle.text.specs.Text.{wholeLines, joined, answerRoom}
 use Rattle.kept_text.specs.Kept.{lastEnd}
-use Rattle.run.specs.Lines.{lineOutcomes}
-use Rattle.run.specs.Program.{Reached, LinesDemand}
-use Rattle.stream.specs.declared.Drained.{Drained}
+use Rattle.run.specs.Lines.{printedAll, printedLines, callsIn, ofCalls}
+use Rattle.run.specs.Program.{Reached}
 use Rattle.feed.specs.declared.Fed.{Fed}
-use Rattle.feed.specs.Feed.{FedIs, FinishedIs}
+use Rattle.feed.specs.Feed.{textOf, FedIs}
 
 -- the begun line of a text: what stands behind its last line end
 unfoldable pub begun : List ℕ → List ℕ
@@ -26,30 +25,51 @@ begun text = drop (length (joined (wholeLines text))) text
 unfoldable pub inputLines : List ℕ → List (List ℕ)
 inputLines input = wholeLines (input ++ lastEnd (length (begun input)))
 
--- reads from what `fresh` gives on, with all answers written: each read's bytes stand in the buffer behind what the one before it kept. Said of the record, of
--- what is kept, of the bytes of all reads, and of the lines that were played
-pub data Reads : Table → List ℕ → List ℕ → ℕ → List ℕ → List ℕ → List (List ℕ) → Type 0 where
+-- calls of `feed` from what `fresh` gives on. At each, the text lent is what the one before it left, and bytes of the input behind it, or none. Said of the
+-- record, of what is left, of all bytes of the input, and of the answer bytes of all calls
+pub data Reads : Table → List ℕ → List ℕ → ℕ → List ℕ → List ℕ → List ℕ → Type 0 where
   start : {l : Ledger} → SoundLedger l → ledgerView l ≡ empty → Reads (l .table) (l .book .ids) (l .book .days) (l .book .used) [] [] []
-  next : {t : Table} {ids days : List ℕ} {used : ℕ} {kept input : List ℕ} {ls : List (List ℕ)} {buf : List ℕ} {len : ℕ} {r : Fed} {ids′ days′ buf′ : List ℕ}
-      → Reads t ids days used kept input ls → (bytes : List ℕ) → take len buf ≡ kept ++ bytes
-      → (p : FedIs t ids days used buf len r ids′ days′ buf′) → r .ok ≡ true
-      → Reads (r .table) ids′ days′ (r .used) (take (r .kept) buf′) (input ++ bytes) (ls ++ p .drained .upto .lines)
+  next : {s : Fed} {ids days left input answers buf out ids′ days′ buf′ out′ : List ℕ} {n : ℕ} {r : Fed}
+      → Reads (s .table) ids days (s .used) left input answers → (bytes : List ℕ) → textOf s buf n ≡ left ++ bytes → answerRoom ≤ length out
+      → FedIs s ids days buf n out r ids′ days′ buf′ out′
+      → Reads (r .table) ids′ days′ (r .used) (take (r .left) buf′) (input ++ bytes) (answers ++ take (r .waiting) out′)
 
--- lines played, and lines of the input: each is answered alike, the record is that of the input's lines played at once, and demand 3 holds of these
-pub record AtOnce (lines input : List (List ℕ)) (t : Table) (ids days : List ℕ) (used : ℕ) : Type 0 where
-  pub answers : lineOutcomes empty lines ≡ lineOutcomes empty input
-  pub reached : Reached input t ids days used
-  pub demanded : LinesDemand input t ids days used
+-- bytes are the history machine's answer lines to lines; the record is the machine after them; and whoever reads answers and reports off the bytes reads those
+-- of demand 3
+pub record Answered (lines : List (List ℕ)) (bytes : List ℕ) (t : Table) (ids days : List ℕ) (used : ℕ) : Type 0 where
+  pub reached : Reached lines t ids days used
+  pub printed : bytes ≡ printedLines empty lines
+  pub demanded : (os : List Outcome) → printedAll os ≡ bytes → Demand (callsIn lines) (ofCalls lines os) (viewOf t ids days used)
 
--- however the input is cut into reads: its whole lines, and what is kept of its begun line
-abbrev pub ReadsAtOnce : Type 0
-ReadsAtOnce =
-    (t : Table) (ids days : List ℕ) (used : ℕ) (kept input : List ℕ) (ls : List (List ℕ)) → Reads t ids days used kept input ls
-    → (AtOnce ls (wholeLines input) t ids days used) × (kept ≡ take 1024 (begun input))
+-- however the input is cut into reads, once no whole line is left: all its whole lines are answered, and what is left is its begun line, cut
+abbrev pub ReadsAnswered : Type 0
+ReadsAnswered =
+    (t : Table) (ids days : List ℕ) (used : ℕ) (left input answers : List ℕ) → Reads t ids days used left input answers → wholeLines left ≡ []
+    → (Answered (wholeLines input) answers t ids days used) × (take 1024 left ≡ take 1024 (begun input))
 
--- and once it has ended: all its lines
-abbrev pub InputAtOnce : Type 0
-InputAtOnce =
-    (t : Table) (ids days : List ℕ) (used : ℕ) (input : List ℕ) (ls : List (List ℕ)) (buf : List ℕ) (kept : ℕ) (r : Drained) (ids′ days′ buf′ : List ℕ)
-    → Reads t ids days used (take kept buf) input ls → kept < length buf → (p : FinishedIs t ids days used buf kept r ids′ days′ buf′) → r .ok ≡ true
-    → AtOnce (ls ++ p .drained .upto .lines) (inputLines input) (r .table) ids′ days′ (r .used)
+-- and once it has ended: the end that its last line lacks is read behind it, and all its lines are answered
+abbrev pub InputAnswered : Type 0
+InputAnswered =
+    (t : Table) (ids days : List ℕ) (used : ℕ) (left input answers : List ℕ) → Reads t ids days used left (input ++ lastEnd (length (begun input))) answers
+    → wholeLines left ≡ [] → Answered (inputLines input) answers t ids days used
+
+-- that end is the one that what is left lacks
+abbrev pub SameEnd : Type 0
+SameEnd =
+    (t : Table) (ids days : List ℕ) (used : ℕ) (left input answers : List ℕ) → Reads t ids days used left input answers → wholeLines left ≡ []
+    → lastEnd (length left) ≡ lastEnd (length (begun input))
+
+-- and a call that plays nothing leaves no whole line
+abbrev pub NoneLeft : Type 0
+NoneLeft =
+    (s : Fed) (ids days buf : List ℕ) (n : ℕ) (out : List ℕ) (r : Fed) (ids′ days′ buf′ out′ : List ℕ) → FedIs s ids days buf n out r ids′ days′ buf′ out′
+    → answerRoom ≤ length out → r .read ≡ 0 → wholeLines (take (r .left) buf′) ≡ []
+
+-- ---- what the program hands on
+
+-- the record and what stands in front of the buffer are what reads left, and no answer waits to be written
+pub record Ready (s : Fed) (ids days buf : List ℕ) : Type 0 where
+  pub input : List ℕ
+  pub answers : List ℕ
+  pub reads : Reads (s .table) ids days (s .used) (take (s .left) buf) input answers
+  pub none-waits : s .waiting ≡ 0

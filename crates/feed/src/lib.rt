@@ -1,61 +1,48 @@
-// What the program does behind a read: the whole lines are played and answered, and the begun line is kept in front of the next read.
-ghost use Prim.Native.Nat.{_<_, _≤_};
+// What the program does with the text that it has read: whole lines are played, their answers stand in a lent buffer, and what is left is moved to the front.
+ghost use Prim.Native.Nat.{_+_, _≤_};
 ghost use lib.ListN.{length};
-ghost use Rattle.promise.specs.Promise.{Sound};
-ghost use Rattle.feed.specs.Feed.{FedIs, FinishedIs};
-use kept_text::end_line;
+ghost use Rattle.text.specs.Text.{answerRoom};
+ghost use Rattle.feed.specs.Feed.{FedIs};
+ghost use Rattle.feed.specs.Reads.{Ready};
 use kept_text::keep;
-use stream::Drained;
-use stream::drain;
+use run::run;
 use table::Table;
 
-// The record afterwards beside the lent book, how many bytes of the text were played, how many are kept in front of the buffer, and whether all
-// answers were written.
+// The record beside the lent book; how many bytes in front of the text buffer are left; how many bytes were played last; how many bytes in front of the answer
+// buffer wait to be written.
 pub struct Fed {
     pub table: Table,
     pub used: usize,
+    pub left: usize,
     pub read: usize,
-    pub kept: usize,
-    pub ok: bool,
+    pub waiting: usize,
 }
 
-// Plays the whole lines of the first `len` bytes of `buf`, writes their answers, and keeps the begun line in front.
+// Plays the whole lines of what was left and of the n bytes behind it, as long as `out` has room for the longest answer line; moves what is behind them to the
+// front. Where no line was played, there is none, and of the begun line its first 1,024 bytes are left.
 pub fn feed(
-    t: Table,
+    s: Fed,
     ids: &mut [u8; 32768],
     days: &mut [u32; 1024],
-    used: usize,
     buf: &mut [u8],
-    len: usize,
+    n: usize,
+    out: &mut [u8],
 ) -> Fed
-    requires { ⌜ (Sound t (now ids) (now days) used) × (len ≤ length (now buf)) ⌝ }
-    ensures { λ r. ⌜ FedIs t (now (ids .entry)) (now (days .entry)) used (now (buf .entry)) len r (now (ids .exit)) (now (days .exit)) (now (buf .exit)) ⌝ }
+    requires { ⌜ (Ready s (now ids) (now days) (now buf)) × (s .left + n ≤ length (now buf)) × (answerRoom ≤ length (now out)) ⌝ }
+    ensures { λ r. ⌜ FedIs s (now (ids .entry)) (now (days .entry)) (now (buf .entry)) n (now (out .entry)) r (now (ids .exit)) (now (days .exit)) (now (buf .exit)) (now (out .exit)) ⌝ }
 {
-    let d = drain(t, ids, days, used, &buf[..len]);
-    let table = d.table;
-    let read = d.read;
-    let kept = keep(buf, read, len);
+    let table = s.table;
+    let used = s.used;
+    let len = s.left + n;
+    let r = run(table, ids, days, used, &buf[..len], out);
+    let after = r.table;
+    let read = r.read;
+    let left = keep(buf, read, len);
     Fed {
-        table: table,
-        used: d.used,
+        table: after,
+        used: r.used,
+        left: left,
         read: read,
-        kept: kept,
-        ok: d.ok,
+        waiting: r.written,
     }
-}
-
-// The end of the input: what is kept in front of `buf` is the last line, which lacks its end; it is played where it has a byte.
-pub fn finish(
-    t: Table,
-    ids: &mut [u8; 32768],
-    days: &mut [u32; 1024],
-    used: usize,
-    buf: &mut [u8],
-    kept: usize,
-) -> Drained
-    requires { ⌜ (Sound t (now ids) (now days) used) × (kept < length (now buf)) ⌝ }
-    ensures { λ r. ⌜ FinishedIs t (now (ids .entry)) (now (days .entry)) used (now (buf .entry)) kept r (now (ids .exit)) (now (days .exit)) (now (buf .exit)) ⌝ }
-{
-    let end = end_line(buf, kept);
-    drain(t, ids, days, used, &buf[..end])
 }

@@ -2,11 +2,15 @@
 use mathlib.Core.Bool.{cond}
 use mathlib.Core.List.{List, [], _∷_}
 use Prim.Native.Nat.{ℕ, zero, suc}
-use lib.Dec.{ltb}
+use lib.Dec.{eqb, ltb}
 
 -- how much is kept of a begun line of n bytes: its first 1,024
 unfoldable pub cutLength : ℕ → ℕ
 cutLength n = cond (ltb n 1024) n 1024
+
+-- how much is kept of n bytes that stand behind the lines played, which have `from` bytes: all, or, where no line was played, what is kept of a begun line
+unfoldable pub keptLength : ℕ → ℕ → ℕ
+keptLength from n = cond (eqb from 0) (cutLength n) n
 
 -- the end that the last line lacks, where a byte of it is kept
 unfoldable pub lastEnd : ℕ → List ℕ

@@ -15,6 +15,9 @@ use table::Table;
 use text::next_end;
 use transfer::transfer_at;
 
+// The bytes lent to a line for its report: as many as the longest has.
+const REPORT_ROOM: usize = 913;
+
 // The record afterwards beside the lent book, how many bytes of the text were played, and how many were written.
 pub struct Ran {
     pub table: Table,
@@ -38,7 +41,7 @@ pub fn run(
 {
     let values = digit_values();
     let mut frame = [0u8; 352];
-    let mut report = [0u8; 913];
+    let mut report = [0u8; REPORT_ROOM];
     let mut read: usize = 0;
     let mut written: usize = 0;
     let mut end = next_end(lines, read, out.len());

@@ -26,10 +26,17 @@ unfoldable pub joined : List (List ℕ) → List ℕ
 joined [] = []
 joined (l ∷ ls) = (l ++ (10 ∷ [])) ++ joined ls
 
--- where the line that begins at the place `from` ends, if it has its end and there is room for the longest answer line, of 1,829 bytes: 2 digits, 2 for each
--- of 913 bytes, the end. Else the text's length
+-- the bytes lent to a line for its report: as many as the longest has
+abbrev pub reportRoom : ℕ
+reportRoom = 913
+
+-- the bytes of the longest answer line: 2 digits, 2 for each byte of the report, the end
+abbrev pub answerRoom : ℕ
+answerRoom = 1829
+
+-- where the line that begins at the place `from` ends, if it has its end and there is room for the longest answer line. Else the text's length
 unfoldable pub nextEnd : List ℕ → ℕ → ℕ → ℕ
-nextEnd input from room = cond (leb 1829 room) (from + lineLength (drop from input)) (length input)
+nextEnd input from room = cond (leb answerRoom room) (from + lineLength (drop from input)) (length input)
 
 -- the answer as two decimal digits, directly followed by the report in hexadecimal, and the line end
 unfoldable pub printed : ℕ → List ℕ → List ℕ

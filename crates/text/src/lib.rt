@@ -52,12 +52,15 @@ fn line_end(s: &[u8], from: usize) -> usize
     i
 }
 
+// The bytes of the longest answer line.
+const ANSWER_ROOM: usize = 1829;
+
 // The end of the line that begins at `from`, or the text's length where no whole line or no room is left.
 pub fn next_end(lines: &[u8], from: usize, room: usize) -> usize
     requires { ⌜ from ≤ length (now lines) ⌝ }
     ensures { λ r. ⌜ r ≡ nextEnd (now (lines .entry)) from room ⌝ }
 {
-    if room < 1829 {
+    if room < ANSWER_ROOM {
         return lines.len();
     }
     line_end(lines, from)

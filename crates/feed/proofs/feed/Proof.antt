@@ -1,49 +1,56 @@
--- The text is drained, and what is behind the lines played is kept. Assumes nothing.
+-- The text is played, and what is behind the lines played is left. Assumes nothing.
 use mathlib.Core.Path.{sym, ap, _∙_}
 use mathlib.Core.List.{List}
-use Prim.Native.Nat.{ℕ, _≤_}
+use Prim.Native.Nat.{_+_, _≤_}
 use native.Mathlib.Omega.{arith}
-use lib.ListN.{length}
+use borrow.Author.Needs.{needs}
 use lib.Seq.{length-take-le}
 use Rattle.octets.specs.Octets.{write}
-use Rattle.octets.proofs.Places.{write-length}
-use Rattle.feed.proofs.Buffer.{kept-bytes, kept-count}
+use Rattle.feed.proofs.Buffer.{left-bytes, left-count}
+use Rattle.feed.proofs.Theorem.{sofar}
 use Rattle.feed.proofs.feed.Statement.{statement}
 use Rattle.feed.proofs.feed.Tie as tie
 
 -- the lines played are of the text
-played-within : (c : tie.After-drain) → c .drain .result .read ≤ c .before .before .before .before .before .args .len
+played-within : (c : tie.After-run) → c .run .result .read ≤ c .before .before .before .before .before .before .before .before .before .args .s .left + c .before .before .before .before .before .before .before .before .before .args .n
 played-within c =
-    let s = c .before .before .before .before .before in
-    omega (arith, c .drain .ensures .upto .within, length-take-le (s .args .len) (s .args .buf .now) (s .pre .1))
+    let e = c .before .before .before .before .before .before .before .before .before in
+    omega (arith, c .run .ensures .passed .within, length-take-le (e .args .s .left + e .args .n) (e .args .buf .now) (e .pre .1))
 
-slice-reshare-prefix-drain : tie.Need-slice-reshare-prefix-drain
-slice-reshare-prefix-drain c = c .before .before .before .pre .1
+add-len : tie.Need-add-len
+add-len c = search needs
 
-slice-aggregate-drain : tie.Need-slice-aggregate-drain
-slice-aggregate-drain c = let s = c .before .before .before .before in sym (length-take-le (s .args .len) (s .args .buf .now) (s .pre .1))
+slice-reshare-prefix-run : tie.Need-slice-reshare-prefix-run
+slice-reshare-prefix-run c = search needs
 
-drain-requires : tie.Need-drain-requires
-drain-requires c κs = c .before .before .before .before .pre .0
+slice-aggregate-run : tie.Need-slice-aggregate-run
+slice-aggregate-run c = let e = c .before .before .before .before .before .before .before in sym (length-take-le (e .args .s .left + e .args .n) (e .args .buf .now) (e .pre .1))
+
+run-requires : tie.Need-run-requires
+run-requires c κs = sofar (c .before .before .before .before .before .before .before .before .pre .0 .reads) .reached .sound
 
 keep-requires : tie.Need-keep-requires
-keep-requires c κs = (omega (arith, played-within (c .before .before)), c .before .before .before .before .before .before .before .pre .1)
+keep-requires c κs = (played-within (c .before .before .before .before), c .before .before .before .before .before .before .before .before .before .before .before .before .before .pre .1)
 
 same-length : tie.Need-same-length
-same-length c = let s = c .before .before .before .before .before .before .before .before .before .before in ap length (c .before .before .keep .ensures .0) ∙ write-length (s .args .buf .now) 0 _
+same-length c = search needs
+
+same-length-2 : tie.Need-same-length-2
+same-length-2 c = search needs
 
 returns : tie.Need-returns
 returns c =
-    let s = c .before .before .before .before .before .before .before .before .before .before in
-    let d = c .before .before .before .before .before in
+    let e = c .before .before .before .before .before .before .before .before .before .before .before .before .before .before .before .before in
+    let r = c .before .before .before .before .before .before .before in
     let k = c .before .before .keep in
-    let buf = s .args .buf .now in
-    let read = d .drain .result .read in
+    let buf = e .args .buf .now in
+    let read = r .run .result .read in
+    let len = e .args .s .left + e .args .n in
     record {
-      drained = d .drain .ensures;
-      count = k .ensures .1 ∙ kept-count buf read (s .args .len) (played-within d) (s .pre .1);
-      bytes = k .ensures .0 ∙ ap (λ (l : List ℕ). write buf 0 l) (kept-bytes buf read (s .args .len) (played-within d) (s .pre .1));
+      ran = r .run .ensures;
+      count = k .ensures .1 ∙ left-count buf read len (played-within r) (e .pre .1);
+      bytes = k .ensures .0 ∙ ap (λ (l : List _). write buf 0 l) (left-bytes buf read len (played-within r) (e .pre .1));
     }
 
 pub feed-spec : {M : Type 1} → statement M
-feed-spec = tie.close (tie.spec slice-reshare-prefix-drain slice-aggregate-drain drain-requires keep-requires same-length returns)
+feed-spec = tie.close (tie.spec add-len slice-reshare-prefix-run slice-aggregate-run run-requires keep-requires same-length same-length-2 returns)

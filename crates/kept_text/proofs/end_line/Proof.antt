@@ -20,9 +20,6 @@ returns c = rw (c .if1 .taken) (refl, refl)
 slice-write-buf : tie.Need-slice-write-buf
 slice-write-buf c = omega arith
 
-add-result : tie.Need-add-result
-add-result c = omega arith
-
 same-length : tie.Need-same-length
 same-length c = simp length-set refl
 
@@ -31,4 +28,4 @@ unfolding write
 returns-2 c = rw (last-end _ (c .if1 .left)) (refl, refl)
 
 pub end-line-spec : {M : Type 1} → statement M
-end-line-spec = tie.close (tie.spec returns slice-write-buf add-result same-length returns-2)
+end-line-spec = tie.close (tie.spec returns slice-write-buf same-length returns-2)

@@ -6,8 +6,8 @@ use borrow.Author.Needs.{needs}
 use lib.ListN.{length, length-set}
 use Rattle.octets.specs.Octets.{part, write}
 use Rattle.book.proofs.Laws.{move-more}
-use Rattle.kept_text.specs.Kept.{cutLength}
-use Rattle.kept_text.proofs.Laws.{cut-most}
+use Rattle.kept_text.specs.Kept.{keptLength}
+use Rattle.kept_text.proofs.Laws.{kept-most}
 use Rattle.kept_text.proofs.keep.Statement.{statement}
 use Rattle.kept_text.proofs.keep.Tie as tie
 
@@ -17,15 +17,15 @@ Inv-loop buf₀ from len n i₀ buf i = (i ≤ n) × (from + n ≤ length buf₀
 abbrev μ-loop : tie.MeasureT-loop
 μ-loop buf₀ from len n i₀ buf i = n - i
 
-sub-cut : tie.Need-sub-cut Inv-loop μ-loop
-sub-cut c = omega arith
+sub-kept-length : tie.Need-sub-kept-length Inv-loop μ-loop
+sub-kept-length c = omega arith
 
-cut-requires : tie.Need-cut-requires Inv-loop μ-loop
-cut-requires c κs = search needs
+kept-length-requires : tie.Need-kept-length-requires Inv-loop μ-loop
+kept-length-requires c κs = search needs
 
 loop-holds : tie.Need-loop-holds Inv-loop μ-loop
 unfolding part write
-loop-holds c = (omega arith, omega (arith, c .cut .ensures, cut-most (c .before .before .args .len - c .before .before .args .from)), refl, refl)
+loop-holds c = (omega arith, omega (arith, c .kept-length .ensures, kept-most (c .before .before .args .from) (c .before .before .args .len - c .before .before .args .from)), refl, refl)
 
 add-buf : tie.Need-add-buf Inv-loop μ-loop
 add-buf c = omega (arith, c .before .before .before .before .good)
@@ -55,8 +55,8 @@ returns : tie.Need-returns Inv-loop μ-loop
 returns c =
     let l = c .before in
     let s = l .before .before .before in
-    let e : l .loop .i ≡ cutLength (s .args .len - s .args .from) = omega (arith, l .before .cut .ensures) in
-    (rw e at (l .loop .inv .3), l .before .cut .ensures)
+    let e : l .loop .i ≡ keptLength (s .args .from) (s .args .len - s .args .from) = omega (arith, l .before .kept-length .ensures) in
+    (rw e at (l .loop .inv .3), l .before .kept-length .ensures)
 
 pub keep-spec : {M : Type 1} → statement M
 keep-spec =
@@ -64,8 +64,8 @@ keep-spec =
     (tie.spec
     Inv-loop
     μ-loop
-    sub-cut
-    cut-requires
+    sub-kept-length
+    kept-length-requires
     loop-holds
     add-buf
     slice-read-buf

@@ -23,13 +23,14 @@ use Rattle.run.specs.Run.{Passed}
 use Rattle.run.proofs.Laws.{forward, fits}
 use Rattle.run.proofs.Turns.{frame-within, Long, Turned, turned, paid}
 use Rattle.run.proofs.run.Tie as tie
+use Rattle.text.specs.Text.{answerRoom, reportRoom}
 
 abbrev pub Inv-loop : tie.InvT-loop
 Inv-loop ids₀ days₀ used₀ lines out₀ t₀ values frame₀ report₀ read₀ written₀ end₀ ids days used out t frame report read written end =
     (Passed (viewOf t₀ ids₀ days₀ used₀) lines out₀ t ids days used read written out)
     × (NextIs lines read (length out₀ - written) end)
     × (length out ≡ length out₀)
-    × (length report ≡ 913)
+    × (length report ≡ reportRoom)
     × (length frame ≡ 352)
     × (Long t)
 
@@ -42,7 +43,7 @@ abbrev pub μ-loop : tie.MeasureT-loop
 pub ahead : (c : tie.In-loop Inv-loop μ-loop) → c .before .loop .read ≤ c .before .loop .end
 ahead c = forward _ _ _ _ _ _ _ _ _ _ _ (c .before .loop .inv .0) (c .before .loop .inv .1) (c .loop-test .taken)
 
-pub roomy : (c : tie.In-loop Inv-loop μ-loop) → c .before .loop .written + 1829 ≤ length (c .before .loop .out)
+pub roomy : (c : tie.In-loop Inv-loop μ-loop) → c .before .loop .written + answerRoom ≤ length (c .before .loop .out)
 roomy c = omega (arith, fits _ _ _ _ _ _ _ _ _ _ _ (c .before .loop .inv .0) (c .before .loop .inv .1) (c .loop-test .taken), c .before .loop .inv .2)
 
 -- ---- the line's frame
