@@ -24,7 +24,7 @@ use Rattle.feed.specs.Reads.{begun, Reads, start, next}
 use Rattle.feed.proofs.Theorem.{input-answered, same-end, none-left}
 use Rattle.tally.specs.declared.progress.Progress.{Progress}
 use Rattle.tally.specs.Progress.{started, written, broken, done, Closed, Ready, PlayedIs, Over}
-use Rattle.tally.specs.ReadOn.{ReadIs, Rests, took, ReadOnIs, stays, ends, reads, fails}
+use Rattle.tally.specs.ReadOn.{ReadIs, Rests, took, ReadOnIs, stays, ends, reads, fails, none}
 
 -- ---- the buffer
 
@@ -52,8 +52,8 @@ unfolding lastEnd
 last-within zero n h = omega arith
 last-within (suc k) n h = omega arith
 
-pub failed : {p r : Progress} {buf buf′ : List ℕ} → r ≡ broken p → length buf′ ≡ length buf → ReadOnIs p buf r buf′
-failed {p} {r} {buf} {buf′} e h = subst (λ (x : Progress). ReadOnIs p buf x buf′) (sym e) (fails h)
+pub failed : {p r : Progress} {buf buf′ : List ℕ} → r ≡ broken p → ReadOnIs p buf (broken p) buf′ → ReadOnIs p buf r buf′
+failed {p} {r} {buf} {buf′} e h = subst (λ (x : Progress). ReadOnIs p buf x buf′) (sym e) h
 
 -- ---- a call of `feed`
 
@@ -199,7 +199,7 @@ module _ {q : Progress} {ids days buf out : List ℕ} {f : Fed} {ids′ days′ 
         less = omega (arith, left-most p .0, ap undone on);
         same = buf-long;
       }
-  turn-on (reads e z h r) =
+  turn-on (reads e z h r k) =
       let none = none-left (q .fed) ids days buf (q .n) out f ids′ days′ buf′ out′ p room z in
       let end : lastEnd (f .left) ≡ lastEnd (length (begun input)) =
       ap lastEnd (sym (length-take-le (f .left) buf′ (omega (arith, left-most p .1, same-buf p))))
@@ -209,20 +209,22 @@ module _ {q : Progress} {ids days buf out : List ℕ} {f : Fed} {ids′ days′ 
           going = λ _. record {
             fed = fed-again (r .stays);
             within = omega (arith, r .within, r .long);
-            closed = λ w. record { input = input; is = ap (λ (l : List ℕ). input ++ l) (r .last w ∙ end) };
+            closed = λ w. record { input = input; is = ap (λ (l : List ℕ). input ++ l) (r .last w .1 ∙ end) };
           };
           stopped = λ w. absurd (false≢true w);
         };
         less = omega (arith, h, r .within, buf-long, ap undone on);
         same = r .long ∙ buf-long;
       }
-  turn-on (fails {buf′ = b} h) = record { stands = broken-stands refl refl b; less = omega (arith, left-most p .0, ap undone on); same = h ∙ buf-long }
+  turn-on (fails {buf′ = b} h k) = record { stands = broken-stands refl refl b; less = omega (arith, left-most p .0, ap undone on); same = h .long ∙ buf-long }
+  turn-on (none h) = record { stands = broken-stands refl refl buf′; less = omega (arith, left-most p .0, ap undone on); same = buf-long }
 
   turn-off : {s : Progress} {b : List ℕ} → ReadOnIs (broken (after q f)) buf′ s b → Turned s b
   turn-off (stays h) = record { stands = broken-stands refl refl buf′; less = omega (arith, left-most p .0, ap undone on); same = buf-long }
   turn-off (ends e z h) = absurd (false≢true (sym e))
-  turn-off (reads e z h r) = absurd (false≢true (sym e))
-  turn-off (fails {buf′ = b} h) = record { stands = broken-stands refl refl b; less = omega (arith, left-most p .0, ap undone on); same = h ∙ buf-long }
+  turn-off (reads e z h r k) = absurd (false≢true (sym e))
+  turn-off (fails {buf′ = b} h k) = record { stands = broken-stands refl refl b; less = omega (arith, left-most p .0, ap undone on); same = h .long ∙ buf-long }
+  turn-off (none h) = record { stands = broken-stands refl refl buf′; less = omega (arith, left-most p .0, ap undone on); same = buf-long }
 
   rest-on : Rests (written (after q f)) buf′
   rest-on = record { none-read = refl; none-waits = λ _. refl; room = λ _ z. omega (arith, left-cut p z, buf-long) }
@@ -241,7 +243,7 @@ module _ {q : Progress} {ids days buf out : List ℕ} {m : Progress} {ids′ day
   turned {s} {b} (inl e) h = turn-on on g long room (p .fed) (subst (λ (x : Progress). ReadOnIs x buf′ s b) (e ∙ ap written (p .rest)) h)
   turned {s} {b} (inr e) h = turn-off on g long room (p .fed) (subst (λ (x : Progress). ReadOnIs x buf′ s b) (e ∙ ap broken (p .rest)) h)
 
--- ---- the test of the loop
+-- ---- a test by `not`
 
 pub goes-on : {b c : Bool} → b ≡ c → not b ≡ true → c ≡ false
 goes-on {b} {c} e h = sym e ∙ go b h
@@ -256,3 +258,17 @@ has-ended {b} {c} e h = sym e ∙ go b h
     go : (b : Bool) → not b ≡ false → b ≡ true
     go true h = refl
     go false h = absurd (false≢true (sym h))
+
+-- ---- a write
+
+pub either : {p r : Progress} (ok : Bool) → r ≡ cond ok (written p) (broken p) → (r ≡ written p) ⊎ (r ≡ broken p)
+either true e = inl e
+either false e = inr e
+
+pub unsettled : (p : Progress) (ok : Bool) {r : Progress} → not ok ≡ true → r ≡ broken p → r ≡ cond ok (written p) (broken p)
+unsettled p true h e = absurd (false≢true h)
+unsettled p false h e = e
+
+pub settled : (p : Progress) (ok : Bool) → not ok ≡ false → written p ≡ cond ok (written p) (broken p)
+settled p true h = refl
+settled p false h = absurd (false≢true (sym h))

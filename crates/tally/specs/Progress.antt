@@ -82,6 +82,12 @@ pub record Given (p : Progress) (out′ : List ℕ) : Type 0 where
   pub ready : Ready before ids days buf
   pub played : PlayedIs before ids days buf out p ids′ days′ buf′ out′
 
+-- bytes are all the answers that wait there
+pub record Waiting (p : Progress) (answers : List ℕ) : Type 0 where
+  pub out : List ℕ
+  pub given : Given p out
+  pub is : answers ≡ take (p .fed .waiting) out
+
 -- a record is that of an input whose lines are all answered
 abbrev pub AllAnswered : Table → ℕ → Type 0
 AllAnswered t used = (ids : List ℕ) × (days : List ℕ) × (input : List ℕ) × (answers : List ℕ) × Answered (inputLines input) answers t ids days used

@@ -1,11 +1,12 @@
 // Where the program stands between its calls. The fields are this module's own: who plays the input can hand a `Progress` on and cannot make one up, so it
 // cannot say itself that no answer waits, that nothing was read, or that the input has ended.
 ghost use mathlib.Core.Path.{_≡_};
+ghost use mathlib.Core.Bool.{cond};
 ghost use mathlib.Core.Logic.{_⊎_};
 ghost use Prim.Native.Nat.{_<_, _≤_};
 ghost use lib.ListN.{length};
 ghost use Rattle.text.specs.Text.{answerRoom};
-ghost use Rattle.tally.specs.Progress.{started, written, broken, ended, Ready, PlayedIs, Given, Over};
+ghost use Rattle.tally.specs.Progress.{started, written, broken, ended, Ready, PlayedIs, Given, Waiting, Over};
 ghost use Rattle.tally.specs.ReadOn.{ReadIs, Rests, ReadOnIs};
 use feed::Fed;
 use feed::feed;
@@ -33,8 +34,9 @@ pub struct Finished {
     failed: bool,
 }
 
-// What a read gave: how many bytes behind those that were left, whether the input has ended, and whether the read failed.
+// What a read gave: what it said, how many bytes are to be played behind those that were left, whether the input has ended, and whether the read failed.
 struct Got {
+    said: isize,
     n: usize,
     ended: bool,
     failed: bool,
@@ -114,18 +116,22 @@ fn tell_unwritten() {
     io::write_all(STDERR_FILENO, b"tally: standard output cannot be written\n");
 }
 
-// Writes the answers that wait. What reaches standard output no contract can say; so it is asked that `out` is what `play` left, and every answer of it is handed on.
-pub fn put(p: Progress, out: &[u8]) -> Progress
-    requires { ⌜ Given p (now out) ⌝ }
-    ensures { λ r. ⌜ (r ≡ written p) ⊎ (r ≡ broken p) ⌝ }
+// Hands bytes to standard output. What reaches it no contract can say; so it is asked that they are the answers that wait, all of them.
+fn write_answers(p: Progress, answers: &[u8]) -> bool
+    requires { ⌜ Waiting p (now answers) ⌝ }
 {
-    let fed = p.fed;
-    let waiting = fed.waiting;
-    let ok = io::write_all(STDOUT_FILENO, &out[..waiting]);
+    io::write_all(STDOUT_FILENO, answers)
+}
+
+// Once the answers that waited are written, or were not.
+fn settle(p: Progress, ok: bool) -> Progress
+    ensures { λ r. ⌜ r ≡ cond ok (written p) (broken p) ⌝ }
+{
     if !ok {
         tell_unwritten();
         return stop(p);
     }
+    let fed = p.fed;
     let table = fed.table;
     Progress {
         fed: Fed {
@@ -143,15 +149,26 @@ pub fn put(p: Progress, out: &[u8]) -> Progress
     }
 }
 
+// Writes the answers that wait in `out`, which is what `play` left.
+pub fn put(p: Progress, out: &[u8]) -> Progress
+    requires { ⌜ Given p (now out) ⌝ }
+    ensures { λ r. ⌜ (r ≡ written p) ⊎ (r ≡ broken p) ⌝ }
+{
+    let fed = p.fed;
+    let waiting = fed.waiting;
+    settle(p, write_answers(p, &out[..waiting]))
+}
+
 // Reads behind the first `left` bytes of `buf`. At the end of the input the last line gets its end, where it lacks it.
 fn read_behind(buf: &mut [u8], left: usize) -> Got
     requires { ⌜ left < length (now buf) ⌝ }
-    ensures { λ r. ⌜ ReadIs (now (buf .entry)) left (r .n) (r .ended) (now (buf .exit)) ⌝ }
+    ensures { λ r. ⌜ ReadIs (now (buf .entry)) left r (now (buf .exit)) ⌝ }
 {
-    let got = libc::read(STDIN_FILENO, &mut buf[left..]);
-    let n = io::count(got, &buf[left..]);
-    if got < 0 {
+    let said = libc::read(STDIN_FILENO, &mut buf[left..]);
+    let n = io::count(said, &buf[left..]);
+    if said < 0 {
         return Got {
+            said: said,
             n: 0,
             ended: false,
             failed: true,
@@ -160,12 +177,14 @@ fn read_behind(buf: &mut [u8], left: usize) -> Got
     if n == 0 {
         let end = end_line(buf, left);
         return Got {
+            said: said,
             n: end,
             ended: true,
             failed: false,
         };
     }
     Got {
+        said: said,
         n: n,
         ended: false,
         failed: false,

@@ -1,9 +1,8 @@
 -- Whether something is read, and what is known of it. Assumes nothing.
-use mathlib.Core.Path.{refl}
 use mathlib.Core.Logic.{inl, inr}
 use native.Mathlib.Omega.{arith}
 use borrow.Author.Needs.{needs}
-use Rattle.tally.specs.ReadOn.{stays, ends, reads}
+use Rattle.tally.specs.ReadOn.{stays, ends, reads, fails, none}
 use Rattle.tally.proofs.Laws.{failed}
 use Rattle.tally.proofs.progress.read_on.Statement.{statement}
 use Rattle.tally.proofs.progress.read_on.Tie as tie
@@ -24,7 +23,7 @@ stop-requires : tie.Need-stop-requires
 stop-requires c κs = search needs
 
 returns-4 : tie.Need-returns-4
-returns-4 c = failed (c .stop .ensures) refl
+returns-4 c = failed (c .stop .ensures) (none (c .before .before .if4 .taken))
 
 read-behind-requires : tie.Need-read-behind-requires
 read-behind-requires c κs = c .before .before .before .before .before .before .before .before .before .pre .room (c .before .before .before .before .before .before .before .if1 .left) (omega (arith, c .before .before .before .before .if2 .left))
@@ -39,7 +38,7 @@ same-length : tie.Need-same-length
 same-length c = search needs
 
 returns-5 : tie.Need-returns-5
-returns-5 c = failed (c .stop2 .ensures) (c .before .before .before .before .before .read-behind .ensures .long)
+returns-5 c = failed (c .stop2 .ensures) (fails (c .before .before .before .before .before .read-behind .ensures) (c .before .before .if5 .taken))
 
 sub-t11 : tie.Need-sub-t11
 sub-t11 c = search needs
@@ -48,7 +47,7 @@ same-length-2 : tie.Need-same-length-2
 same-length-2 c = search needs
 
 returns-6 : tie.Need-returns-6
-returns-6 c = reads (c .before .before .before .before .before .before .before .before .before .before .before .before .if1 .left) (omega (arith, c .before .before .before .before .before .before .before .before .before .if2 .left)) (omega (arith, c .before .before .before .before .before .before .if4 .left)) (c .before .before .before .before .read-behind .ensures)
+returns-6 c = reads (c .before .before .before .before .before .before .before .before .before .before .before .before .if1 .left) (omega (arith, c .before .before .before .before .before .before .before .before .before .if2 .left)) (omega (arith, c .before .before .before .before .before .before .if4 .left)) (c .before .before .before .before .read-behind .ensures) (c .before .if5 .left)
 
 pub read-on-spec : {M : Type 1} → statement M
 read-on-spec =
