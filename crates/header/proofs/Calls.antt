@@ -47,5 +47,5 @@ module _ (k : Command) (h : Header) (t : Table) (ids days : List ℕ) (used : �
       → Settled k t ids days used (record { answer = 0; table = u; used = used + 1 }) ids′ days′
   unfolding machineOf withAccounts
   taken g u xs ids′ days′ z l p d w =
-      settled-yes k t ids days used g u ids′ days′ (used + 1) z (p .within) (p .same) (omega arith) (d .lengths)
+      settled-yes k t ids days used g u ids′ days′ (used + 1) z (p .within) (p .same) (omega arith) (d .lengths) (d .behind)
       (noted t u ids days used ids′ days′ h xs (ap (λ (m : Machine). m .day) (p .view)) (ap (λ (m : Machine). m .accounts) (p .view)) d ∙ w)

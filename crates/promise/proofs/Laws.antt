@@ -24,7 +24,8 @@ use Rattle.table.specs.declared.Outcome.{Outcome}
 use Rattle.table.specs.Promise.{Good, Called}
 use Rattle.table.specs.View.{accountsOf, machineOf}
 use Rattle.book.specs.declared.Book.{Book}
-use Rattle.book.specs.Entries.{entriesOf, bookOf, Lengths, Added, Dropped}
+use Rattle.book.specs.Entries.{entriesOf, bookOf, Lengths, Behind, Added, Dropped}
+use Rattle.book.proofs.Laws.{untouched}
 use Rattle.promise.specs.declared.Noted.{Noted}
 use Rattle.promise.specs.View.{viewOf, ledgerView, lent, outcomeOf, nextOf}
 use Rattle.promise.specs.Promise.{Sound, SoundLedger, Same, Settled, Played}
@@ -51,6 +52,7 @@ module _ (k : Command) (t : Table) (ids days : List ℕ) (used : ℕ) (g : Sound
     says = e;
     moves = sym (refused-keeps (viewOf t ids days used) (lent 0 k) (λ z. h (e ∙ z)));
     refused = λ z. unchanged t ids days used;
+    behind = untouched ids days used;
     sound = g;
   }
 
@@ -70,11 +72,11 @@ module _ (k : Command) (t : Table) (ids days : List ℕ) (used : ℕ) (g : Sound
   next-effect room e = sym (ap (λ n. ifAccepted n (effect (viewOf t ids days used) k) (viewOf t ids days used)) e)
 
   pub settled-yes : (u : Table) (ids′ days′ : List ℕ) (used′ : ℕ) → answer (viewOf t ids days used) (lent 0 k) ≡ 0 → u .count ≤ 64 → take (u .count) (u .codes) ≡ codes (accountsOf u)
-      → used′ ≤ 1024 → Lengths ids′ days′ → viewOf u ids′ days′ used′ ≡ effect (viewOf t ids days used) k
+      → used′ ≤ 1024 → Lengths ids′ days′ → Behind ids days ids′ days′ used′ → viewOf u ids′ days′ used′ ≡ effect (viewOf t ids days used) k
       → Settled k t ids days used (record { answer = 0; table = u; used = used′ }) ids′ days′
-  settled-yes u ids′ days′ used′ e w q f l v =
+  settled-yes u ids′ days′ used′ e w q f l b v =
       let moved : viewOf u ids′ days′ used′ ≡ next (viewOf t ids days used) (lent 0 k) = v ∙ next-effect 0 e in
-      record { says = sym e; moves = moved; refused = λ h. absurd (h refl); sound = next-sound 0 u ids′ days′ used′ w q f l moved }
+      record { says = sym e; moves = moved; refused = λ h. absurd (h refl); behind = b; sound = next-sound 0 u ids′ days′ used′ w q f l moved }
 
 -- 01 to 06: a call on the table alone
 pub settled-table : (k : Command) (t : Table) (ids days : List ℕ) (used : ℕ) (r : Outcome) → T (plain k) → Sound t ids days used → Called k t r
@@ -86,6 +88,7 @@ settled-table k t ids days used r p g c =
       says = l .0;
       moves = l .1;
       refused = λ h. record { table-same = c .refused h; ids-same = refl; days-same = refl; used-same = refl };
+      behind = untouched ids days used;
       sound = next-sound k t ids days used g 0 (r .table) ids days used (c .good .within) (c .good .same) (g .few) (g .lengths) (l .1);
     }
 
@@ -109,6 +112,7 @@ settled-day-yes d t ids days used r ids′ days′ kept g c z b =
       says = l .0;
       moves = moved;
       refused = λ h. absurd (h z);
+      behind = b .behind;
       sound = next-sound (Opening d) t ids days used g 0 (r .table) ids′ days′ kept (c .good .within) (c .good .same) (omega (arith, b .fewer, g .few)) (b .lengths) moved;
     }
 
@@ -185,6 +189,7 @@ played-silent k t ids days used report r ids′ days′ s p = record {
   bytes = sym (ap (write report 0) (take-none report));
   fits = omega arith;
   refused = p .refused;
+  behind = p .behind;
   sound = p .sound;
 }
 
@@ -198,6 +203,7 @@ played-none t ids days used report g = record {
   bytes = sym (ap (write report 0) (take-none report));
   fits = omega arith;
   refused = λ h. unchanged t ids days used;
+  behind = untouched ids days used;
   sound = g;
 }
 
@@ -234,9 +240,9 @@ answer-small m room (k ∷ cs) = failure-small (checks m room k) (checks-small m
 
 -- ---- the start
 
-pub started : (t : Table) (b : Book) → (Good t) × (machineOf t ≡ empty) → (b .used ≡ 0) × (bookOf b ≡ []) → length (b .ids) ≡ 32768 → length (b .days) ≡ 1024
+pub started : (t : Table) (b : Book) → Good t → machineOf t ≡ empty → b .used ≡ 0 → bookOf b ≡ [] → length (b .ids) ≡ 32768 → length (b .days) ≡ 1024
     → (SoundLedger (record { table = t; book = b })) × (ledgerView (record { table = t; book = b }) ≡ empty)
 unfolding ledgerView viewOf machineOf bookOf empty withBook
-started t b g e long days-long =
-    let seen : viewOf t (b .ids) (b .days) (b .used) ≡ empty = ap (λ es. withBook es (machineOf t)) (e .1) ∙ ap (withBook []) (g .1) in
-    (record { within = g .0 .within; same = g .0 .same; few = omega (arith, e .0); lengths = record { ids-long = long; days-long = days-long }; inv = subst Invariant (sym seen) start-inv }, seen)
+started t b g m none e long days-long =
+    let seen : viewOf t (b .ids) (b .days) (b .used) ≡ empty = ap (λ es. withBook es (machineOf t)) e ∙ ap (withBook []) m in
+    (record { within = g .within; same = g .same; few = omega (arith, none); lengths = record { ids-long = long; days-long = days-long }; inv = subst Invariant (sym seen) start-inv }, seen)

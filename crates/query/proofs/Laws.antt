@@ -19,7 +19,7 @@ use Rattle.rules.proofs.Checks.{early, late, passed, refused-keeps, refused-rep
 use Rattle.table.specs.declared.Table.{Table}
 use Rattle.table.specs.View.{accountsOf}
 use Rattle.book.specs.Entries.{entriesOf, Added}
-use Rattle.book.proofs.Laws.{entries-length}
+use Rattle.book.proofs.Laws.{entries-length, untouched}
 use Rattle.promise.specs.View.{viewOf, lent, outcomeOf, nextOf}
 use Rattle.promise.specs.Promise.{Sound, Played}
 use Rattle.promise.proofs.Laws.{unchanged, next-sound, next-effect, noted}
@@ -42,6 +42,7 @@ played-no k t ids days used report g a e h =
       bytes = sym (ap (write report 0) (take-none report));
       fits = omega arith;
       refused = λ z. unchanged t ids days used;
+      behind = untouched ids days used;
       sound = g;
     }
 
@@ -65,6 +66,7 @@ module _ (h : Header) (is : List (List ℕ)) (t : Table) (ids days : List ℕ) (
         bytes = w .bytes ∙ ap (write report 0) (sym read);
         fits = z;
         refused = λ r. absurd (r refl);
+        behind = b .behind;
         sound = next-sound (Query h is) t ids days used g (length report) t ids′ days′ (used + 1) (g .within) (g .same) (omega arith) (b .lengths) moved;
       }
 
