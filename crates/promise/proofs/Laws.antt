@@ -1,6 +1,6 @@
 -- What a call on the whole record has to show where it refuses and where it accepts. Assumes nothing.
 use mathlib.Core.Path.{_≡_, refl, sym, ap, _∙_, subst}
-use mathlib.Core.Bool.{Bool, true, false, cond, _&&_}
+use mathlib.Core.Bool.{Bool, true, false, cond}
 use mathlib.Core.List.{List, [], _∷_}
 use Prim.Native.Nat.{ℕ, zero, suc, _+_, _≤_, _<_}
 use native.Mathlib.Omega.{arith}
@@ -10,12 +10,10 @@ use Rattle.octets.specs.Octets.{write}
 use Rattle.octets.proofs.Places.{take-none}
 use Rattle.rules.specs.Account as Rule
 use Rattle.rules.specs.Account.{codes}
-use Rattle.rules.specs.Command.{Header, Command, Bank, Branch, Funding, Withdrawal, BankLimits, Payment, Change, Deletion, Query, Opening}
+use Rattle.rules.specs.Command.{Header, Command, Opening}
 use Rattle.rules.specs.Invariant.{Invariant}
 use Rattle.rules.specs.Machine.{Machine, empty, withId, checks, effect, firstFailure, answer, ifAccepted, next, outcome}
-use Rattle.rules.specs.Message.{keepFrom, limitChecks}
-use Rattle.rules.specs.Payment.{paymentChecks}
-use Rattle.rules.specs.Report.{reportOf}
+use Rattle.rules.specs.Message.{keepFrom}
 use Rattle.rules.proofs.Bools.{and-l, and-r}
 use Rattle.rules.proofs.Checks.{refused-keeps}
 use Rattle.rules.proofs.Theorem.{next-keeps, start-inv}
@@ -29,7 +27,9 @@ use Rattle.book.proofs.Laws.{untouched}
 use Rattle.promise.specs.declared.Noted.{Noted}
 use Rattle.promise.specs.View.{viewOf, ledgerView, lent, outcomeOf, nextOf}
 use Rattle.promise.specs.Promise.{Sound, SoundLedger, Same, Settled, Played}
-use Rattle.promise.proofs.Lift.{plain, withBook, lifted, lifted-day, inv-table}
+use Rattle.promise.specs.Calls.{plain, silent}
+use Rattle.promise.proofs.Reaches.{withBook, below, checks-small, unreported}
+use Rattle.promise.proofs.Lift.{lifted, lifted-day, inv-table}
 
 -- ---- the table of a sound record
 
@@ -128,50 +128,11 @@ noted t u ids days used ids′ days′ h xs d a b =
 
 -- ---- every call, with the lent report buffer
 
--- the kinds without a report
-abbrev pub silent : Command → Bool
-silent (Bank c) = true
-silent (Branch c o l p) = true
-silent (Funding c a) = true
-silent (Withdrawal c a) = true
-silent (BankLimits c l p) = true
-silent (Payment w s r a) = true
-silent (Change h is) = true
-silent (Deletion h i t) = true
-silent (Query h is) = false
-silent (Opening d) = true
-
-same-room : (m : Machine) (room : ℕ) (k : Command) → T (silent k) → answer m (lent 0 k) ≡ answer m (lent room k)
-unfolding answer checks
-same-room m room (Bank c) s = refl
-same-room m room (Branch c o l p) s = refl
-same-room m room (Funding c a) s = refl
-same-room m room (Withdrawal c a) s = refl
-same-room m room (BankLimits c l p) s = refl
-same-room m room (Payment w x r a) s = refl
-same-room m room (Change h is) s = refl
-same-room m room (Deletion h i t) s = refl
-same-room m room (Query h is) s = absurd s
-same-room m room (Opening d) s = refl
-
-no-report : (xs : List Rule.Account) (k : Command) → T (silent k) → reportOf xs k ≡ []
-unfolding reportOf
-no-report xs (Bank c) s = refl
-no-report xs (Branch c o l p) s = refl
-no-report xs (Funding c a) s = refl
-no-report xs (Withdrawal c a) s = refl
-no-report xs (BankLimits c l p) s = refl
-no-report xs (Payment w x r a) s = refl
-no-report xs (Change h is) s = refl
-no-report xs (Deletion h i t) s = refl
-no-report xs (Query h is) s = absurd s
-no-report xs (Opening d) s = refl
-
 silent-outcome : (m : Machine) (room : ℕ) (k : Command) → T (silent k) → record { answer = answer m (lent 0 k); report = [] } ≡ outcome m (lent room k)
 unfolding outcome ifAccepted
 silent-outcome m room k s =
-    ap (λ n. record { answer = n; report = [] }) (same-room m room k s)
-    ∙ ap (λ bs. record { answer = answer m (lent room k); report = bs }) (sym (ap (λ bs. ifAccepted (answer m (lent room k)) bs []) (no-report (m .accounts) k s) ∙ neither (answer m (lent room k))))
+    ap (λ n. record { answer = n; report = [] }) (unreported m [] room k s .0)
+    ∙ ap (λ bs. record { answer = answer m (lent room k); report = bs }) (sym (ap (λ bs. ifAccepted (answer m (lent room k)) bs []) (unreported m [] room k s .1) ∙ neither (answer m (lent room k))))
   where
     neither : (n : ℕ) → ifAccepted {A = List ℕ} n [] [] ≡ []
     neither zero = refl
@@ -185,7 +146,7 @@ played-silent k t ids days used report r ids′ days′ s p = record {
       ap (λ bs. record { answer = r .answer; report = bs }) (take-none report)
       ∙ ap (λ n. record { answer = n; report = [] }) (p .says)
       ∙ silent-outcome (viewOf t ids days used) (length report) k s;
-  moves = p .moves ∙ ap (λ n. ifAccepted n (effect (viewOf t ids days used) k) (viewOf t ids days used)) (same-room (viewOf t ids days used) (length report) k s);
+  moves = p .moves ∙ ap (λ n. ifAccepted n (effect (viewOf t ids days used) k) (viewOf t ids days used)) (unreported (viewOf t ids days used) [] (length report) k s .0);
   bytes = sym (ap (write report 0) (take-none report));
   fits = omega arith;
   refused = p .refused;
@@ -209,29 +170,12 @@ played-none t ids days used report g = record {
 
 -- ---- an answer has two digits
 
-abbrev below : List (ℕ × Bool) → Bool
-below [] = true
-below (c ∷ cs) = ltb (c .0) 100 && below cs
-
 failure-small : (cs : List (ℕ × Bool)) → T (below cs) → firstFailure cs < 100
 unfolding firstFailure
 failure-small [] b = omega arith
 failure-small (c ∷ cs) b =
     elim (c .1) as (λ f. cond f (firstFailure cs) (c .0) < 100)
     [ true ↦ failure-small cs (and-r (ltb (c .0) 100) (below cs) b) | false ↦ ltb→lt (c .0) 100 (and-l (ltb (c .0) 100) (below cs) b) ]
-
-checks-small : (m : Machine) (room : ℕ) (k : Command) → T (below (checks m room k))
-unfolding checks paymentChecks limitChecks
-checks-small m room (Bank c) = tt
-checks-small m room (Branch c o l p) = tt
-checks-small m room (Funding c a) = tt
-checks-small m room (Withdrawal c a) = tt
-checks-small m room (BankLimits c l p) = tt
-checks-small m room (Payment w s r a) = tt
-checks-small m room (Change h is) = tt
-checks-small m room (Deletion h i t) = tt
-checks-small m room (Query h is) = tt
-checks-small m room (Opening d) = tt
 
 pub answer-small : (m : Machine) (room : ℕ) (cs : List Command) → (outcomeOf m room cs) .answer < 100
 unfolding outcomeOf outcome answer

@@ -10,8 +10,8 @@ use Rattle.table.specs.Promise.{Called}
 use Rattle.promise.specs.declared.Noted.{Noted}
 use Rattle.promise.specs.declared.Stepped.{Stepped}
 use Rattle.promise.specs.Promise.{Sound, Settled, Played}
-use Rattle.promise.proofs.Laws.{settled-table, silent, played-silent, played-none}
-use Rattle.promise.proofs.Lift.{plain}
+use Rattle.promise.specs.Calls.{plain, silent}
+use Rattle.promise.proofs.Laws.{settled-table, played-silent, played-none}
 
 -- of the commands cs that the bytes hold, and what came back
 module _ (cs : List Command) (t : Table) (ids days : List ℕ) (used : ℕ) (report : List ℕ) (r : Stepped) where
