@@ -1,43 +1,44 @@
 -- Each kind of call keeps what it must; so any list of calls does. Assumes nothing.
-use mathlib.Core.Path.{_≡_, refl, ap, ap₂, _∙_, subst}
-use mathlib.Core.Bool.{true, not, _&&_}
-use mathlib.Core.List.{List, [], _∷_, _++_}
+use mathlib.Core.Path.{_≡_, refl, sym, ap, ap₂, _∙_, subst}
+use mathlib.Core.Bool.{Bool, true, false, not, cond, _&&_, _||_}
+use mathlib.Core.List.{List, [], _∷_}
 use mathlib.Core.Option.{none, some}
-use Prim.Native.Nat.{ℕ, _^_, _<_}
+use Prim.Native.Nat.{ℕ, _+_, _^_, _<_}
 use native.Mathlib.Omega.{arith}
 use lib.ListN.{length}
 use lib.IntN.{ℤ, pos, negℤ, natAbs, _+ℤ_, +ℤ-assoc, +ℤ-idl}
 use lib.Dec.{T, leb, ltb, leb→le, ltb→lt}
 use lib.Signed.{nonNeg, _≤ℤ_}
-use Rattle.amount.specs.Amount.{difference, isLimit}
-use Rattle.amount.proofs.Integer.{difference-add, difference-up, difference-down, ≤ℤ-out, nonNeg-in, nonNeg-up}
+use Rattle.amount.specs.Amount.{difference, dayBalance, isLimit}
+use Rattle.amount.proofs.Integer.{difference-add, difference-self, difference-up, difference-down, ≤ℤ-out, nonNeg-in, nonNeg-up}
 use Rattle.octets.specs.Octets.{isBytes}
-use Rattle.rules.specs.Account.{Value, Account, balance, state, held, isNone, isBank, noTurnovers, withLimits, opened, codes, blank, at, total}
-use Rattle.rules.specs.Command.{Header, Command, Bank, Branch, Funding, Withdrawal, BankLimits, Payment, Change, Deletion, Query, Opening, Call, every, isCode, isMethod, isDay, isCount, isHeader, isItem, wellFormed}
-use Rattle.rules.specs.History.{Event, Funds, Withdraws, Nothing, event, events, funds, withdraws, sumOf, bring, drain, count, brought, taken}
+use Rattle.rules.specs.Account.{Value, Turnovers, Account, balance, state, held, isNone, isBank, noTurnovers, withLimits, opened, codes, blank, at, adjust, total}
+use Rattle.rules.specs.Command.{Header, Command, Bank, Branch, Funding, Withdrawal, BankLimits, Payment, Change, Deletion, Query, Opening, Call, every, some?, isCode, isMethod, isDay, isCount, isHeader, isItem, wellFormed}
+use Rattle.rules.specs.Demand.{broughtForward}
+use Rattle.rules.specs.History.{Event, Funds, Withdraws, Pays, Opens, Nothing, event, events, funds, withdraws, sumOf, paid, count, gets, gives, brought, taken, isOpening, dayOpened}
 use Rattle.rules.specs.Invariant.{All, Limited, Fit, Book, Invariant}
 use Rattle.rules.specs.Machine.{Machine, empty, withAccounts, withId, hasBookPlace, checks, effect, firstFailure, answer, ifAccepted, next, outcome, run, outcomes}
-use Rattle.rules.specs.Message.{named, isMessageId, inBook, isBranchOf, limitChecks, touch, cleared}
+use Rattle.rules.specs.Message.{named, isMessageId, inBook, isBranchOf, limitChecks, touch, cleared, setItems}
 use Rattle.rules.specs.Payment.{isCredit, payer, payee, paymentChecks}
 use Rattle.rules.proofs.Bools.{and-l, and-r}
 use Rattle.rules.proofs.Bound.{less-bounded}
 use Rattle.rules.proofs.Branches.{Metered}
 use Rattle.rules.proofs.Checks.{passed, by-answer}
 use Rattle.rules.proofs.Entries.{book-joined}
-use Rattle.rules.proofs.Keep.{Kept, still-refl, still-adjust, still-items, none-moved, kept-still, kept-join, kept-start, kept-pay, kept-newDay}
+use Rattle.rules.proofs.Keep.{Kept, Still, still-refl, still-adjust, still-items, none-moved, kept-still, kept-join, kept-start, kept-pay, kept-newDay}
 use Rattle.rules.proofs.Ledger.{inflow, outflow, balance-is, payer-known, payee-known, quiet-limits, quiet-touch, held-opened}
 use Rattle.rules.proofs.Lists.{all-imp, all-at, all-adjust}
 use Rattle.rules.proofs.Sound.{fit-opened, fit-limits, state-bank, stays, Timely, timely, branch-no-bank, cleared-ok, fit-touch, fit-items}
 use Rattle.rules.proofs.Unique.{found}
 
--- an accepted message's id joins the book
-noted : (m : Machine) (h : Header) → Invariant m → T (not (inBook (h .id) (m .ids))) → T (isMessageId (h .id)) → T (hasBookPlace m)
-    → Book (m .day) (m .ids ++ (record { id = h .id; day = m .day } ∷ []))
-unfolding hasBookPlace
-noted m h v new ok room = book-joined (m .day) (h .id) (m .ids) new ok room (v .book)
+-- an accepted message moves nothing, and its id joins the book
+kept-message : (m : Machine) (h : Header) (ys : List Account) → Invariant m → Still (m .accounts) ys → All (Fit (m .day)) ys
+    → T (not (inBook (h .id) (m .ids))) → T (isMessageId (h .id)) → T (hasBookPlace m) → Kept m (withId h ys m) Nothing
+unfolding withId hasBookPlace
+kept-message m h ys v s f new ok room = kept-still m (withId h ys m) v refl s f (book-joined (m .day) (h .id) (m .ids) new ok room (v .book))
 
 pub keep : (m : Machine) (room : ℕ) (k : Command) → Invariant m → firstFailure (checks m room k) ≡ 0 → Kept m (effect m k) (event k)
-unfolding checks effect event wellFormed isMethod isDay withAccounts withId paymentChecks limitChecks every opened isNone funds withdraws bring drain
+unfolding checks effect event wellFormed isMethod isDay withAccounts withId paymentChecks limitChecks every opened isNone funds withdraws paid
 keep m room (Bank c) v e =
     kept-join m (opened c none 0 0) v refl (held-opened c none 0 0)
     (fit-opened (m .day) c none 0 0 (passed 1 _ tt e) (omega arith) (omega arith) (λ b. (refl, refl))) tt (passed 2 _ tt e) (passed 3 _ tt e)
@@ -49,13 +50,13 @@ keep m room (Branch c o l p) v e =
 keep m room (Funding c a) v e =
     let f : Fit (m .day) (at c (m .accounts)) = all-at c (Fit (m .day)) (m .accounts) (passed 4 _ tt e) (v .fit) in
     kept-start m c (pos (natAbs a)) (Funds (natAbs a)) v (passed 4 _ tt e) (passed 5 _ tt e) (nonNeg-up (held (at c (m .accounts))) (natAbs a) (f .not-below))
-    (difference-up (natAbs a)) (λ c i. refl) (λ c j. refl) (passed 8 _ tt e)
+    (difference-up (natAbs a)) (λ chosen n. refl) (passed 8 _ tt e)
 keep m room (Withdrawal c a) v e =
     let x : Account = at c (m .accounts) in
     let f : Fit (m .day) x = all-at c (Fit (m .day)) (m .accounts) (passed 4 _ tt e) (v .fit) in
     let b : T (isBank x) = passed 5 _ tt e in
     kept-start m c (negℤ (pos (natAbs a))) (Withdraws (natAbs a)) v (passed 4 _ tt e) b (stays (m .day) x (natAbs a) b (passed 9 _ tt e) f)
-    (difference-down (natAbs a)) (λ c i. refl) (λ c j. refl) (less-bounded (m .accounts) (natAbs a) (v .bounded))
+    (difference-down (natAbs a)) (λ chosen n. refl) (less-bounded (m .accounts) (natAbs a) (v .bounded))
 keep m room (BankLimits c l p) v e =
     let xs : List Account = m .accounts in
     let r : T (nonNeg l && isLimit l && isLimit p) = passed 6 _ tt e in
@@ -70,22 +71,22 @@ keep m room (Payment w s r a) v e =
     (payer-known (isCredit w) s r (m .accounts) (passed 4 _ tt e)) (payee-known (isCredit w) s r (m .accounts) (passed 4 _ tt e)) (passed 9 _ tt e) (passed 8 _ tt e)
 keep m room (Change h is) v e =
     let w : T (isHeader h && isCount (length is) && every isItem is) = passed 1 _ tt e in
-    let t : Timely (m .day) h = timely (m .day) h (and-l (isHeader h) (isCount (length is)) (and-l (isHeader h && isCount (length is)) (every isItem is) w)) (passed 17 _ tt e) in
-    kept-still m (effect m (Change h is)) v refl (still-items h is (m .accounts))
+    let t : Timely (m .day) h = timely (m .day) h (search (and-l, and-r)) (passed 17 _ tt e) in
+    kept-message m h (setItems h is (m .accounts)) v (still-items h is (m .accounts))
     (fit-items (m .day) h t (m .accounts) is (passed 20 _ tt e) (passed 6 _ tt e) (m .accounts) (λ c. refl) (v .fit))
-    (noted m h v (passed 14 _ tt e) (passed 16 _ tt e) (passed 22 _ tt e))
+    (passed 14 _ tt e) (passed 16 _ tt e) (passed 22 _ tt e)
 keep m room (Deletion h i t) v e =
     let xs : List Account = m .accounts in
     let w : T (isHeader h && isBytes 10 i && ltb t 256) = passed 1 _ tt e in
-    let g : Timely (m .day) h = timely (m .day) h (and-l (isHeader h) (isBytes 10 i) (and-l (isHeader h && isBytes 10 i) (ltb t 256) w)) (passed 17 _ tt e) in
+    let g : Timely (m .day) h = timely (m .day) h (search (and-l, and-r)) (passed 17 _ tt e) in
     let b : T (isBranchOf (h .sender) (named i) xs && true) = passed 20 _ tt e in
-    kept-still m (effect m (Deletion h i t)) v refl (still-adjust (named i) (quiet-touch h t cleared) xs)
+    let nb : T (not (isBank (at (named i) xs))) = branch-no-bank (h .sender) (named i) xs (and-l (isBranchOf (h .sender) (named i) xs) true b) in
+    kept-message m h (adjust (named i) (touch h t cleared) xs) v (still-adjust (named i) (quiet-touch h t cleared) xs)
     (all-adjust (named i) (touch h t cleared) (Fit (m .day)) xs
-    (λ kn. fit-touch (m .day) h g t cleared cleared-ok (at (named i) xs) (branch-no-bank (h .sender) (named i) xs (and-l (isBranchOf (h .sender) (named i) xs) true b)) (all-at (named i) (Fit (m .day)) xs kn (v .fit)))
-    (v .fit))
-    (noted m h v (passed 14 _ tt e) (passed 16 _ tt e) (passed 22 _ tt e))
+    (λ kn. fit-touch (m .day) h g t cleared cleared-ok (at (named i) xs) nb (all-at (named i) (Fit (m .day)) xs kn (v .fit))) (v .fit))
+    (passed 14 _ tt e) (passed 16 _ tt e) (passed 22 _ tt e)
 keep m room (Query h is) v e =
-    kept-still m (effect m (Query h is)) v refl (still-refl (m .accounts)) (v .fit) (noted m h v (passed 14 _ tt e) (passed 16 _ tt e) (passed 22 _ tt e))
+    kept-message m h (m .accounts) v (still-refl (m .accounts)) (v .fit) (passed 14 _ tt e) (passed 16 _ tt e) (passed 22 _ tt e)
 keep m room (Opening d) v e =
     let l : m .day < d = ltb→lt (m .day) d (passed 13 _ tt e) in
     kept-newDay m d v (omega arith) (ltb→lt d (2 ^ 32) (passed 1 _ tt e))
@@ -131,46 +132,85 @@ run-sum (k ∷ ks) m v =
     ∙ ap (λ z. total held (m .accounts) +ℤ z) (difference-add _ _ _ _)
 
 run-metered : (c : ℕ) (ks : List Call) (m : Machine) → Invariant m → (i j : ℕ) → Metered c (m .accounts) i j
-    → Metered c ((run m ks) .accounts) (count (bring c) i (events ks (outcomes m ks))) (count (drain c) j (events ks (outcomes m ks)))
+    → Metered c ((run m ks) .accounts) (count (gets c) i (events ks (outcomes m ks))) (count (gives c) j (events ks (outcomes m ks)))
 unfolding run events outcomes outcome count
 run-metered c [] m v i j h = h
 run-metered c (k ∷ ks) m v i j h = run-metered c ks (next m k) (next-keeps m k v .inv) _ _ (next-keeps m k v .metered c i j h)
 
-start-metered : (c : ℕ) → Metered c (empty .accounts) 0 0
-unfolding empty at blank opened noTurnovers inflow outflow
-start-metered c nb = (refl, refl)
-
-start-total : (z : ℤ) → total held (empty .accounts) +ℤ z ≡ z
-unfolding empty total
-start-total z = +ℤ-idl z
-
--- ---- the parts of the demand
-
-pub balanced : (ks : List Call)
-    → total held ((run empty ks) .accounts) ≡ difference (sumOf funds (events ks (outcomes empty ks))) (sumOf withdraws (events ks (outcomes empty ks)))
-balanced ks = run-sum ks empty start-inv ∙ start-total _
-
 bank-above : (today : ℕ) (x : Account) → Fit today x → T (isBank x) → pos 0 ≤ℤ state x
 bank-above today x f b = ≤ℤ-out (pos 0) (state x) (rw (state-bank x b) (omega (arith, nonNeg-in (held x) (f .not-below))))
 
-pub none-below : (ks : List Call) → All (λ x. T (isBank x) → pos 0 ≤ℤ state x) ((run empty ks) .accounts)
-none-below ks = all-imp (bank-above ((run empty ks) .day)) ((run empty ks) .accounts) (reachable ks .fit)
+-- ---- a count that goes on from a start
 
-pub branches : (ks : List Call)
-    → All (λ x. T (not (isBank x)) → balance (x .turnovers) ≡ difference (brought (x .code) (events ks (outcomes empty ks))) (taken (x .code) (events ks (outcomes empty ks)))) ((run empty ks) .accounts)
-unfolding brought taken isBank
-branches ks = all-imp at-code xs (found xs (reachable ks .table .distinct))
+paid-from : (chosen : ℕ → ℕ → Bool) (e : Event) (n : ℕ) → paid chosen e n ≡ cond (isOpening e) 0 n + paid chosen e 0
+unfolding paid isOpening
+paid-from chosen (Funds a) n = omega arith
+paid-from chosen (Withdraws a) n = omega arith
+paid-from chosen (Pays p q a) n = elim (chosen p q) as (λ b. cond b (n + a) n ≡ n + cond b (0 + a) 0) [ true ↦ omega arith | false ↦ omega arith ]
+paid-from chosen Opens n = omega arith
+paid-from chosen Nothing n = omega arith
+
+count-from : (chosen : ℕ → ℕ → Bool) (n : ℕ) (es : List Event) → count chosen n es ≡ cond (dayOpened es) 0 n + count chosen 0 es
+unfolding count dayOpened some?
+count-from chosen n [] = omega arith
+count-from chosen n (e ∷ es) =
+    go (isOpening e) (dayOpened es) (paid chosen e n) (paid chosen e 0) (count chosen 0 es) (paid-from chosen e n) (count-from chosen (paid chosen e n) es) (count-from chosen (paid chosen e 0) es)
   where
-    xs : List Account
-    xs = (run empty ks) .accounts
+    go : (o d : Bool) (u v z : ℕ) {x y : ℕ} → u ≡ cond o 0 n + v → x ≡ cond d 0 u + z → y ≡ cond d 0 v + z → x ≡ cond (o || d) 0 n + y
+    go true true u v z p q r = omega arith
+    go true false u v z p q r = omega arith
+    go false true u v z p q r = omega arith
+    go false false u v z p q r = omega arith
 
-    es : List Event
-    es = events ks (outcomes empty ks)
+-- ---- the parts of the demand, from a sound start
 
-    by-code : (c : ℕ) → T (not (isBank (at c xs))) → balance ((at c xs) .turnovers) ≡ difference (brought c es) (taken c es)
-    by-code c nb =
-        let h = run-metered c ks empty start-inv 0 0 (start-metered c) nb in
-        balance-is ((at c xs) .turnovers) ∙ ap₂ difference (h .0) (h .1)
+module _ (s : Machine) (v : Invariant s) where
+  pub balanced : (ks : List Call)
+      → total held ((run s ks) .accounts) ≡ total held (s .accounts) +ℤ difference (sumOf funds (events ks (outcomes s ks))) (sumOf withdraws (events ks (outcomes s ks)))
+  balanced ks = run-sum ks s v
 
-    at-code : (x : Account) → at (x .code) xs ≡ x → T (not (isBank x)) → balance (x .turnovers) ≡ difference (brought (x .code) es) (taken (x .code) es)
-    at-code x e = subst (λ y. T (not (isBank y)) → balance (y .turnovers) ≡ difference (brought (x .code) es) (taken (x .code) es)) e (by-code (x .code))
+  pub none-below : (ks : List Call) → All (λ x. T (isBank x) → pos 0 ≤ℤ state x) ((run s ks) .accounts)
+  none-below ks = all-imp (bank-above ((run s ks) .day)) ((run s ks) .accounts) (run-inv ks s v .fit)
+
+  pub branches : (ks : List Call)
+      → All (λ x. T (not (isBank x)) → balance (x .turnovers) ≡ broughtForward s (events ks (outcomes s ks)) (x .code)
+      +ℤ difference (brought (x .code) (events ks (outcomes s ks))) (taken (x .code) (events ks (outcomes s ks)))) ((run s ks) .accounts)
+  unfolding brought taken isBank broughtForward
+  branches ks = all-imp at-code xs (found xs (run-inv ks s v .table .distinct))
+    where
+      xs : List Account
+      xs = (run s ks) .accounts
+
+      es : List Event
+      es = events ks (outcomes s ks)
+
+      t : ℕ → Turnovers
+      t c = (at c (s .accounts)) .turnovers
+
+      forward : (c : ℕ) → difference (cond (dayOpened es) 0 (inflow (t c))) (cond (dayOpened es) 0 (outflow (t c))) ≡ broughtForward s es c
+      forward c =
+          elim (dayOpened es) as (λ d. difference (cond d 0 (inflow (t c))) (cond d 0 (outflow (t c))) ≡ cond d (pos 0) (balance (t c)))
+          [ true ↦ difference-self 0 | false ↦ sym (balance-is (t c)) ]
+
+      by-code : (c : ℕ) → T (not (isBank (at c xs))) → balance ((at c xs) .turnovers) ≡ broughtForward s es c +ℤ difference (brought c es) (taken c es)
+      by-code c nb =
+          let h = run-metered c ks s v (inflow (t c)) (outflow (t c)) (λ u. (refl, refl)) nb in
+          balance-is ((at c xs) .turnovers)
+          ∙ ap₂ difference (h .0 ∙ count-from (gets c) (inflow (t c)) es) (h .1 ∙ count-from (gives c) (outflow (t c)) es)
+          ∙ sym (difference-add (cond (dayOpened es) 0 (inflow (t c))) (cond (dayOpened es) 0 (outflow (t c))) (brought c es) (taken c es))
+          ∙ ap (λ z. z +ℤ difference (brought c es) (taken c es)) (forward c)
+
+      at-code : (x : Account) → at (x .code) xs ≡ x → T (not (isBank x)) → balance (x .turnovers) ≡ broughtForward s es (x .code) +ℤ difference (brought (x .code) es) (taken (x .code) es)
+      at-code x e =
+          subst (λ y. T (not (isBank y)) → balance (y .turnovers) ≡ broughtForward s es (x .code) +ℤ difference (brought (x .code) es) (taken (x .code) es)) e (by-code (x .code))
+
+-- ---- from the empty machine nothing is brought forward
+
+pub empty-total : (z : ℤ) → total held (empty .accounts) +ℤ z ≡ z
+unfolding empty total
+empty-total z = +ℤ-idl z
+
+pub empty-forward : (es : List Event) (c : ℕ) (z : ℤ) → broughtForward empty es c +ℤ z ≡ z
+unfolding broughtForward empty at blank opened noTurnovers balance dayBalance
+empty-forward es c z =
+    elim (dayOpened es) as (λ d. cond d (pos 0) (difference 0 0) +ℤ z ≡ z) [ true ↦ +ℤ-idl z | false ↦ ap (λ y. y +ℤ z) (difference-self 0) ∙ +ℤ-idl z ]

@@ -1,10 +1,10 @@
 -- What a list of calls and its answers did to the ledger, read off the calls and the answers alone: no turnover, no state, no machine. Assumes nothing.
-use mathlib.Core.Bool.{cond}
+use mathlib.Core.Bool.{Bool, true, false, cond}
 use mathlib.Core.List.{List, [], _∷_}
 use Prim.Native.Nat.{ℕ, _+_}
 use lib.IntN.{natAbs}
 use lib.Dec.{eqb}
-use Rattle.rules.specs.Command.{Command, Bank, Branch, Funding, Withdrawal, BankLimits, Payment, Change, Deletion, Query, Opening, Call}
+use Rattle.rules.specs.Command.{Command, Bank, Branch, Funding, Withdrawal, BankLimits, Payment, Change, Deletion, Query, Opening, Call, some?}
 use Rattle.rules.specs.Payment.{isCredit, payer, payee}
 use Rattle.rules.specs.Machine.{Outcome, ifAccepted}
 
@@ -54,30 +54,42 @@ unfoldable pub sumOf : (Event → ℕ) → List Event → ℕ
 sumOf f [] = 0
 sumOf f (e ∷ es) = f e + sumOf f es
 
--- ---- payments since the last day opening, or the start: counts that go on from n
+-- ---- payments since the last day opening, or the start
 
--- what they brought the party c
-unfoldable pub bring : ℕ → Event → ℕ → ℕ
-bring c (Funds a) n = n
-bring c (Withdraws a) n = n
-bring c (Pays p q a) n = cond (eqb q c) (n + a) n
-bring c Opens n = 0
-bring c Nothing n = n
+-- an amount that goes on from n: payments whose payer and other party are chosen add to it, and with a day opening it begins anew
+unfoldable pub paid : (ℕ → ℕ → Bool) → Event → ℕ → ℕ
+paid chosen (Funds a) n = n
+paid chosen (Withdraws a) n = n
+paid chosen (Pays p q a) n = cond (chosen p q) (n + a) n
+paid chosen Opens n = 0
+paid chosen Nothing n = n
 
--- what they took from it
-unfoldable pub drain : ℕ → Event → ℕ → ℕ
-drain c (Funds a) n = n
-drain c (Withdraws a) n = n
-drain c (Pays p q a) n = cond (eqb p c) (n + a) n
-drain c Opens n = 0
-drain c Nothing n = n
+unfoldable pub count : (ℕ → ℕ → Bool) → ℕ → List Event → ℕ
+count chosen n [] = n
+count chosen n (e ∷ es) = count chosen (paid chosen e n) es
 
-unfoldable pub count : (Event → ℕ → ℕ) → ℕ → List Event → ℕ
-count f n [] = n
-count f n (e ∷ es) = count f (f e n) es
+-- the payments that the party c gets, and those that it gives
+abbrev pub gets : ℕ → ℕ → ℕ → Bool
+gets c p q = eqb q c
 
+abbrev pub gives : ℕ → ℕ → ℕ → Bool
+gives c p q = eqb p c
+
+-- what they brought it, and what they took from it
 unfoldable pub brought : ℕ → List Event → ℕ
-brought c es = count (bring c) 0 es
+brought c es = count (gets c) 0 es
 
 unfoldable pub taken : ℕ → List Event → ℕ
-taken c es = count (drain c) 0 es
+taken c es = count (gives c) 0 es
+
+-- ---- whether a day was opened
+
+unfoldable pub isOpening : Event → Bool
+isOpening (Funds a) = false
+isOpening (Withdraws a) = false
+isOpening (Pays p q a) = false
+isOpening Opens = true
+isOpening Nothing = false
+
+unfoldable pub dayOpened : List Event → Bool
+dayOpened es = some? isOpening es
