@@ -1,15 +1,13 @@
 -- Lines that hold the same commands, line by line, are answered alike and leave the same machine. Assumes nothing.
-use mathlib.Core.Path.{_≡_, refl, sym, ap, subst, _∙_}
+use mathlib.Core.Path.{_≡_, refl, sym, ap, _∙_}
 use mathlib.Core.List.{List, [], _∷_, map}
 use Prim.Native.Nat.{ℕ}
 use Rattle.rules.specs.Command.{Command}
 use Rattle.rules.specs.Machine.{Machine, Outcome, empty}
 use Rattle.table.specs.declared.Table.{Table}
-use Rattle.promise.specs.View.{viewOf, outcomeOf, nextOf}
-use Rattle.rules.specs.Demand.{Demand}
-use Rattle.run.specs.Lines.{commandsIn, lineOutcome, lineNext, played, lineOutcomes, printedAll, printedLines, callsIn, ofCalls}
+use Rattle.promise.specs.View.{outcomeOf, nextOf}
+use Rattle.run.specs.Lines.{commandsIn, lineOutcome, lineNext, played, lineOutcomes, printedAll, printedLines}
 use Rattle.run.specs.Program.{Reached}
-use Rattle.run.proofs.Sequence.{all-one}
 use Rattle.run.proofs.Theorem.{reached-demand}
 use Rattle.feed.specs.Reads.{Answered}
 use Rattle.text.specs.Text.{reportRoom}
@@ -37,16 +35,16 @@ outcomes-held m [] = refl
 outcomes-held m (l ∷ ls) = ap (λ os. outcomeOf m reportRoom (commandsIn l) ∷ os) (outcomes-held (nextOf m reportRoom (commandsIn l)) ls)
 
 -- lines answered with the answer lines of others
-pub answered : (lines input : List (List ℕ)) (bytes : List ℕ) {t : Table} {ids days : List ℕ} {used : ℕ} → held lines ≡ held input → Reached lines t ids days used
+pub answered : (lines input : List (List ℕ)) (bytes : List ℕ) {t : Table} {ids days : List ℕ} {used : ℕ} → held lines ≡ held input → Reached empty lines t ids days used
     → bytes ≡ printedLines empty lines → Answered input bytes t ids days used
 unfolding printedLines
 answered lines input bytes {t} {ids} {days} {used} e q p =
     let same : played empty lines ≡ played empty input = played-held empty lines ∙ ap (nextAll empty) e ∙ sym (played-held empty input) in
     let outs : lineOutcomes empty lines ≡ lineOutcomes empty input = outcomes-held empty lines ∙ ap (outcomesAll empty) e ∙ sym (outcomes-held empty input) in
-    let reached : Reached input t ids days used = record { sound = q .sound; state = q .state ∙ same } in
+    let reached : Reached empty input t ids days used = record { start-sound = q .start-sound; sound = q .sound; state = q .state ∙ same } in
     let all : bytes ≡ printedAll (lineOutcomes empty input) = p ∙ ap printedAll outs in
     record {
       reached = reached;
       printed = all;
-      demanded = λ os h. subst (λ ps. Demand (callsIn input) (ofCalls input ps) (viewOf t ids days used)) (sym (all-one os (lineOutcomes empty input) (h ∙ all))) (reached-demand reached);
+      demanded = λ os h. reached-demand reached os (h ∙ all);
     }

@@ -21,7 +21,7 @@ use Rattle.run.specs.Lines.{commandsIn, lineOutcomes, printedAll, printedLines}
 use Rattle.run.specs.Program.{Reached}
 use Rattle.run.specs.Run.{RanIs}
 use Rattle.run.proofs.Sequence.{printed-append}
-use Rattle.run.proofs.Program.{fresh-reached, run-reached, wrote, front}
+use Rattle.run.proofs.Program.{start-reached, run-reached, wrote, front}
 use Rattle.feed.specs.declared.Fed.{Fed}
 use Rattle.feed.specs.Feed.{FedIs, textOf, leftOf}
 use Rattle.feed.specs.Reads.{begun, inputLines, Reads, start, next, ReadsAnswered, InputAnswered, SameEnd, NoneLeft}
@@ -81,7 +81,7 @@ none-left s ids days buf n out r ids′ days′ buf′ out′ p room e =
 -- the lines played, of which the answer bytes are; with the whole lines that are left they hold what the input's hold, and the begun line is the same
 pub record Sofar (t : Table) (ids days : List ℕ) (used : ℕ) (left input answers : List ℕ) : Type 0 where
   pub lines : List (List ℕ)
-  pub reached : Reached lines t ids days used
+  pub reached : Reached empty lines t ids days used
   pub printed : answers ≡ printedLines empty lines
   pub same : held (lines ++ wholeLines left) ≡ held (wholeLines input)
   pub kept : take 1024 (begun left) ≡ take 1024 (begun input)
@@ -107,7 +107,7 @@ module _ (left input bytes : List ℕ) (kept : take 1024 (begun left) ≡ take 1
 
 pub sofar : {t : Table} {ids days : List ℕ} {used : ℕ} {left input answers : List ℕ} → Reads t ids days used left input answers → Sofar t ids days used left input answers
 unfolding printedLines printedAll lineOutcomes
-sofar (start {l} g e) = record { lines = []; reached = fresh-reached l g e; printed = refl; same = refl; kept = refl }
+sofar (start {l} g e) = record { lines = []; reached = start-reached l g e; printed = refl; same = refl; kept = refl }
 sofar (next {s} {ids} {days} {left} {input} {answers} {buf} {out} {ids′} {days′} {buf′} {out′} {n} {r} q bytes is room p) =
     let h = sofar q in
     let d = p .ran .passed in

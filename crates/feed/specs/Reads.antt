@@ -37,7 +37,7 @@ pub data Reads : Table → List ℕ → List ℕ → ℕ → List ℕ → List �
 -- bytes are the history machine's answer lines to lines; the record is the machine after them; and whoever reads answers and reports off the bytes reads those
 -- of demand 3
 pub record Answered (lines : List (List ℕ)) (bytes : List ℕ) (t : Table) (ids days : List ℕ) (used : ℕ) : Type 0 where
-  pub reached : Reached lines t ids days used
+  pub reached : Reached empty lines t ids days used
   pub printed : bytes ≡ printedLines empty lines
   pub demanded : (os : List Outcome) → printedAll os ≡ bytes → Demand (callsIn lines) (ofCalls lines os) (viewOf t ids days used)
 
