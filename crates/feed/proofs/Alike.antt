@@ -3,7 +3,7 @@ use mathlib.Core.Path.{_≡_, refl, sym, ap, _∙_}
 use mathlib.Core.List.{List, [], _∷_, map}
 use Prim.Native.Nat.{ℕ}
 use Rattle.rules.specs.Command.{Command}
-use Rattle.rules.specs.Machine.{Machine, Outcome, empty}
+use Rattle.rules.specs.Machine.{Machine, Outcome}
 use Rattle.table.specs.declared.Table.{Table}
 use Rattle.promise.specs.View.{outcomeOf, nextOf}
 use Rattle.run.specs.Lines.{commandsIn, lineOutcome, lineNext, played, lineOutcomes, printedAll, printedLines}
@@ -35,14 +35,14 @@ outcomes-held m [] = refl
 outcomes-held m (l ∷ ls) = ap (λ os. outcomeOf m reportRoom (commandsIn l) ∷ os) (outcomes-held (nextOf m reportRoom (commandsIn l)) ls)
 
 -- lines answered with the answer lines of others
-pub answered : (lines input : List (List ℕ)) (bytes : List ℕ) {t : Table} {ids days : List ℕ} {used : ℕ} → held lines ≡ held input → Reached empty lines t ids days used
-    → bytes ≡ printedLines empty lines → Answered input bytes t ids days used
+pub answered : (m : Machine) (lines input : List (List ℕ)) (bytes : List ℕ) {t : Table} {ids days : List ℕ} {used : ℕ} → held lines ≡ held input → Reached m lines t ids days used
+    → bytes ≡ printedLines m lines → Answered m input bytes t ids days used
 unfolding printedLines
-answered lines input bytes {t} {ids} {days} {used} e q p =
-    let same : played empty lines ≡ played empty input = played-held empty lines ∙ ap (nextAll empty) e ∙ sym (played-held empty input) in
-    let outs : lineOutcomes empty lines ≡ lineOutcomes empty input = outcomes-held empty lines ∙ ap (outcomesAll empty) e ∙ sym (outcomes-held empty input) in
-    let reached : Reached empty input t ids days used = record { start-sound = q .start-sound; sound = q .sound; state = q .state ∙ same } in
-    let all : bytes ≡ printedAll (lineOutcomes empty input) = p ∙ ap printedAll outs in
+answered m lines input bytes {t} {ids} {days} {used} e q p =
+    let same : played m lines ≡ played m input = played-held m lines ∙ ap (nextAll m) e ∙ sym (played-held m input) in
+    let outs : lineOutcomes m lines ≡ lineOutcomes m input = outcomes-held m lines ∙ ap (outcomesAll m) e ∙ sym (outcomes-held m input) in
+    let reached : Reached m input t ids days used = record { start-sound = q .start-sound; sound = q .sound; state = q .state ∙ same } in
+    let all : bytes ≡ printedAll (lineOutcomes m input) = p ∙ ap printedAll outs in
     record {
       reached = reached;
       printed = all;

@@ -10,7 +10,7 @@ use lib.ListN.{length, take, drop, length-drop, length-take}
 use lib.Seq.{take-take}
 use borrow.Author.Tests.{eqb-true}
 use Rattle.rules.specs.Command.{Command}
-use Rattle.rules.specs.Machine.{empty}
+use Rattle.rules.specs.Machine.{Machine}
 use Rattle.table.specs.declared.Table.{Table}
 use Rattle.promise.specs.View.{viewOf}
 use Rattle.text.specs.Text.{wholeLines, answerRoom}
@@ -79,10 +79,10 @@ none-left s ids days buf n out r ids′ days′ buf′ out′ p room e =
 -- ---- any number of calls
 
 -- the lines played, of which the answer bytes are; with the whole lines that are left they hold what the input's hold, and the begun line is the same
-pub record Sofar (t : Table) (ids days : List ℕ) (used : ℕ) (left input answers : List ℕ) : Type 0 where
+pub record Sofar (m : Machine) (t : Table) (ids days : List ℕ) (used : ℕ) (left input answers : List ℕ) : Type 0 where
   pub lines : List (List ℕ)
-  pub reached : Reached empty lines t ids days used
-  pub printed : answers ≡ printedLines empty lines
+  pub reached : Reached m lines t ids days used
+  pub printed : answers ≡ printedLines m lines
   pub same : held (lines ++ wholeLines left) ≡ held (wholeLines input)
   pub kept : take 1024 (begun left) ≡ take 1024 (begun input)
 
@@ -105,10 +105,10 @@ module _ (left input bytes : List ℕ) (kept : take 1024 (begun left) ≡ take 1
       ∙ map-append commandsIn (lines ++ wholeLines left) a ∙ ap₂ (λ (x y : List (List Command)). x ++ y) same more-held
       ∙ sym (map-append commandsIn (wholeLines input) (wholeLines (begun input ++ bytes))) ∙ ap held (sym (lines-on input bytes))
 
-pub sofar : {t : Table} {ids days : List ℕ} {used : ℕ} {left input answers : List ℕ} → Reads t ids days used left input answers → Sofar t ids days used left input answers
+pub sofar : {m : Machine} {t : Table} {ids days : List ℕ} {used : ℕ} {left input answers : List ℕ} → Reads m t ids days used left input answers → Sofar m t ids days used left input answers
 unfolding printedLines printedAll lineOutcomes
-sofar (start {l} g e) = record { lines = []; reached = start-reached l g e; printed = refl; same = refl; kept = refl }
-sofar (next {s} {ids} {days} {left} {input} {answers} {buf} {out} {ids′} {days′} {buf′} {out′} {n} {r} q bytes is room p) =
+sofar {m} (start {l} g e) = record { lines = []; reached = start-reached l g e; printed = refl; same = refl; kept = refl }
+sofar {m} (next {s} {ids} {days} {left} {input} {answers} {buf} {out} {ids′} {days′} {buf′} {out′} {n} {r} q bytes is room p) =
     let h = sofar q in
     let d = p .ran .passed in
     let text = textOf s buf n in
@@ -116,7 +116,7 @@ sofar (next {s} {ids} {days} {left} {input} {answers} {buf} {out} {ids′} {days
       lines = h .lines ++ d .lines;
       reached = run-reached (p .ran) (h .lines) (h .reached);
       printed =
-          ap₂ _++_ (h .printed) (wrote (p .ran) ∙ ap (λ m. printedLines m (d .lines)) (h .reached .state)) ∙ sym (printed-append empty (h .lines) (d .lines));
+          ap₂ _++_ (h .printed) (wrote (p .ran) ∙ ap (λ n. printedLines n (d .lines)) (h .reached .state)) ∙ sym (printed-append m (h .lines) (d .lines));
       same =
           ap (λ (ls : List (List ℕ)). held ((h .lines ++ d .lines) ++ ls)) (ap wholeLines (fed-left p) ∙ left-lines text room (p .ran))
           ∙ ap held (append-assoc (h .lines) (d .lines) (wholeLines (drop (r .read) text)) ∙ ap (λ (ls : List (List ℕ)). h .lines ++ ls) (sym (d .rest) ∙ ap wholeLines is))
@@ -127,18 +127,18 @@ sofar (next {s} {ids} {days} {left} {input} {answers} {buf} {out} {ids′} {days
     }
 
 pub reads-answered : ReadsAnswered
-reads-answered t ids days used left input answers q none =
+reads-answered m t ids days used left input answers q none =
     let h = sofar q in
     let all : held (h .lines) ≡ held (wholeLines input) =
     ap held (sym (append-nil (h .lines))) ∙ ap (λ (ls : List (List ℕ)). held (h .lines ++ ls)) (sym none) ∙ h .same in
-    (answered (h .lines) (wholeLines input) answers all (h .reached) (h .printed), ap (take 1024) (sym (all-begun left none)) ∙ h .kept)
+    (answered m (h .lines) (wholeLines input) answers all (h .reached) (h .printed), ap (take 1024) (sym (all-begun left none)) ∙ h .kept)
 
 -- ---- the end of the input
 
 pub input-answered : InputAnswered
 unfolding inputLines
-input-answered t ids days used left input answers q none =
-    reads-answered t ids days used left (input ++ lastEnd (length (begun input))) answers q none .0
+input-answered m t ids days used left input answers q none =
+    reads-answered m t ids days used left (input ++ lastEnd (length (begun input))) answers q none .0
 
 -- a begun line has a byte where its first bytes have one
 last-same : (l : List ℕ) → lastEnd (length (take 1024 l)) ≡ lastEnd (length l)
@@ -147,5 +147,5 @@ last-same [] = refl
 last-same (x ∷ l) = refl
 
 pub same-end : SameEnd
-same-end t ids days used left input answers q none =
-    sym (last-same left) ∙ ap (λ (l : List ℕ). lastEnd (length l)) (reads-answered t ids days used left input answers q none .1) ∙ last-same (begun input)
+same-end m t ids days used left input answers q none =
+    sym (last-same left) ∙ ap (λ (l : List ℕ). lastEnd (length l)) (reads-answered m t ids days used left input answers q none .1) ∙ last-same (begun input)

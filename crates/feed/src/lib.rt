@@ -3,7 +3,7 @@ ghost use Prim.Native.Nat.{_+_, _≤_};
 ghost use lib.ListN.{length};
 ghost use Rattle.text.specs.Text.{answerRoom};
 ghost use Rattle.feed.specs.Feed.{FedIs};
-ghost use Rattle.feed.specs.Reads.{Ready};
+ghost use Rattle.feed.specs.Reads.{SomeReady};
 use kept_text::keep;
 use run::run;
 use table::Table;
@@ -28,7 +28,7 @@ pub fn feed(
     n: usize,
     out: &mut [u8],
 ) -> Fed
-    requires { ⌜ (Ready s (now ids) (now days) (now buf)) × (s .left + n ≤ length (now buf)) × (answerRoom ≤ length (now out)) ⌝ }
+    requires { ⌜ (SomeReady s (now ids) (now days) (now buf)) × (s .left + n ≤ length (now buf)) × (answerRoom ≤ length (now out)) ⌝ }
     ensures { λ r. ⌜ FedIs s (now (ids .entry)) (now (days .entry)) (now (buf .entry)) n (now (out .entry)) r (now (ids .exit)) (now (days .exit)) (now (buf .exit)) (now (out .exit)) ⌝ }
 {
     let table = s.table;

@@ -124,7 +124,7 @@ from-fresh l buf g e = record {
   stopped = λ h. absurd (false≢true h);
 }
   where
-    none : (b : List ℕ) → Reads (l .table) (l .book .ids) (l .book .days) (l .book .used) (take 0 b) [] []
+    none : (b : List ℕ) → Reads empty (l .table) (l .book .ids) (l .book .days) (l .book .used) (take 0 b) [] []
     none [] = start g e
     none (x ∷ b) = start g e
 
@@ -145,15 +145,15 @@ module _ {q : Progress} {ids days buf out : List ℕ} {f : Fed} {ids′ days′ 
   abbrev answers : List ℕ
   answers = g .fed .answers ++ take (f .waiting) out′
 
-  read-so-far : Reads (f .table) ids′ days′ (f .used) (take (f .left) buf′) input answers
+  read-so-far : Reads empty (f .table) ids′ days′ (f .used) (take (f .left) buf′) input answers
   read-so-far = next (g .fed .reads) (take (q .n) (drop (q .fed .left) buf)) (take-add (q .fed .left) (q .n) buf) room p
 
   -- the answers are written, and what is left stays, whatever is read behind it
-  fed-again : {b : List ℕ} → take (f .left) b ≡ take (f .left) buf′ → Fed.Ready (written (after q f) .fed) ids′ days′ b
+  fed-again : {b : List ℕ} → take (f .left) b ≡ take (f .left) buf′ → Fed.Ready empty (written (after q f) .fed) ids′ days′ b
   fed-again e = record {
     input = input;
     answers = answers;
-    reads = subst (λ (l : List ℕ). Reads (f .table) ids′ days′ (f .used) l input answers) (sym e) read-so-far;
+    reads = subst (λ (l : List ℕ). Reads empty (f .table) ids′ days′ (f .used) l input answers) (sym e) read-so-far;
     none-waits = refl;
   }
 
@@ -191,8 +191,8 @@ module _ {q : Progress} {ids days buf out : List ℕ} {f : Fed} {ids′ days′ 
               days′,
               c .input,
               answers,
-              input-answered (f .table) ids′ days′ (f .used) (take (f .left) buf′) (c .input) answers
-                  (subst (λ (i : List ℕ). Reads (f .table) ids′ days′ (f .used) (take (f .left) buf′) i answers) (c .is) read-so-far) none,
+              input-answered empty (f .table) ids′ days′ (f .used) (take (f .left) buf′) (c .input) answers
+                  (subst (λ (i : List ℕ). Reads empty (f .table) ids′ days′ (f .used) (take (f .left) buf′) i answers) (c .is) read-so-far) none,
             );
           };
         };
@@ -203,7 +203,7 @@ module _ {q : Progress} {ids days buf out : List ℕ} {f : Fed} {ids′ days′ 
       let none = none-left (q .fed) ids days buf (q .n) out f ids′ days′ buf′ out′ p room z in
       let end : lastEnd (f .left) ≡ lastEnd (length (begun input)) =
       ap lastEnd (sym (length-take-le (f .left) buf′ (omega (arith, left-most p .1, same-buf p))))
-      ∙ same-end (f .table) ids′ days′ (f .used) (take (f .left) buf′) input answers read-so-far none in
+      ∙ same-end empty (f .table) ids′ days′ (f .used) (take (f .left) buf′) input answers read-so-far none in
       record {
         stands = record {
           going = λ _. record {

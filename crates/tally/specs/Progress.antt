@@ -5,6 +5,7 @@ use mathlib.Core.Logic.{_⊎_}
 use mathlib.Core.List.{List, _++_}
 use Prim.Native.Nat.{ℕ, _+_, _≤_}
 use lib.ListN.{length, take, drop}
+use Rattle.rules.specs.Machine.{empty}
 use Rattle.table.specs.declared.Table.{Table}
 use Rattle.kept_text.specs.Kept.{lastEnd}
 use Rattle.feed.specs.declared.Fed.{Fed}
@@ -57,10 +58,10 @@ pub record Closed (bytes : List ℕ) : Type 0 where
   pub input : List ℕ
   pub is : bytes ≡ input ++ lastEnd (length (begun input))
 
--- the record and what stands in front of the buffer are what reads left, no answer waits to be written, and n bytes were read behind them; once the input has
+-- the record and what stands in front of the buffer are what reads from the fresh record on left, no answer waits to be written, and n bytes were read behind them; once the input has
 -- ended, they close it
 pub record Ready (p : Progress) (ids days buf : List ℕ) : Type 0 where
-  pub fed : Fed.Ready (p .fed) ids days buf
+  pub fed : Fed.Ready empty (p .fed) ids days buf
   pub within : p .fed .left + p .n ≤ length buf
   pub closed : p .ended ≡ true → Closed (fed .input ++ take (p .n) (drop (p .fed .left) buf))
 
@@ -88,9 +89,9 @@ pub record Waiting (p : Progress) (answers : List ℕ) : Type 0 where
   pub given : Given p out
   pub is : answers ≡ take (p .fed .waiting) out
 
--- a record is that of an input whose lines are all answered
+-- a record is that of an input whose lines are all answered, from the fresh record on
 abbrev pub AllAnswered : Table → ℕ → Type 0
-AllAnswered t used = (ids : List ℕ) × (days : List ℕ) × (input : List ℕ) × (answers : List ℕ) × Answered (inputLines input) answers t ids days used
+AllAnswered t used = (ids : List ℕ) × (days : List ℕ) × (input : List ℕ) × (answers : List ℕ) × Answered empty (inputLines input) answers t ids days used
 
 -- nothing is left to do: a read or a write failed, or all lines of the input are answered
 pub record Over (p : Progress) : Type 0 where

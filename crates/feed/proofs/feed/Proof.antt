@@ -27,7 +27,7 @@ slice-aggregate-run : tie.Need-slice-aggregate-run
 slice-aggregate-run c = let e = c .before .before .before .before .before .before .before in sym (length-take-le (e .args .s .left + e .args .n) (e .args .buf .now) (e .pre .1))
 
 run-requires : tie.Need-run-requires
-run-requires c κs = sofar (c .before .before .before .before .before .before .before .before .pre .0 .reads) .reached .sound
+run-requires c κs = sofar (c .before .before .before .before .before .before .before .before .pre .0 .1 .reads) .reached .sound
 
 keep-requires : tie.Need-keep-requires
 keep-requires c κs = (played-within (c .before .before .before .before), c .before .before .before .before .before .before .before .before .before .before .before .before .before .pre .1)

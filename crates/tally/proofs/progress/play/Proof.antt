@@ -1,11 +1,12 @@
 -- What was read is fed. Assumes nothing.
 use mathlib.Core.Path.{refl}
 use borrow.Author.Needs.{needs}
+use Rattle.rules.specs.Machine.{empty}
 use Rattle.tally.proofs.progress.play.Statement.{statement}
 use Rattle.tally.proofs.progress.play.Tie as tie
 
 feed-requires : tie.Need-feed-requires
-feed-requires c κs = let g = c .before .before .before .before .before .before .before .pre in (g .0 .fed, g .0 .within, g .1)
+feed-requires c κs = let g = c .before .before .before .before .before .before .before .pre in ((empty, g .0 .fed), g .0 .within, g .1)
 
 same-length : tie.Need-same-length
 same-length c = search needs
