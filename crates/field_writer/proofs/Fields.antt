@@ -23,7 +23,7 @@ use Rattle.frame.specs.Filled.{Filled}
 use Rattle.frame.proofs.Digits.{length-digits}
 use Rattle.frame.proofs.Rows.{bytes-are}
 use Rattle.frame.proofs.Fields.{narrow, field-bytes}
-use Rattle.frame.proofs.Commands.{in-range, kind-narrow}
+use Rattle.frame.proofs.Commands.{in-range, kind-known}
 use Rattle.frame.proofs.OneToOneProof.{frame-formed}
 use Rattle.frame.proofs.Layouts.{filled-none, frame-length}
 
@@ -88,7 +88,7 @@ module _ (c : Command) (f : List ℕ) where
       → Filled (commandFrame (c ∷ [])) f g r
   unfolding commandFrame frameOf
   written g r h room e n =
-      let t = total-length (fieldsOf (kindOf c)) (valuesOf c) (kind-narrow (kindOf c)) (sym (in-range c) ∙ h) in
+      let t = total-length (fieldsOf (kindOf c)) (valuesOf c) (kind-known (kindOf c) .fields) (sym (in-range c) ∙ h) in
       let whole = write-is f 0 (frameOf c) (omega (arith, frame-length (frameOf c) (frame-formed c h))) in
       rw h
       (record {

@@ -1,18 +1,16 @@
 -- A command and the values of its fields give each other back, a command is in range exactly when its values fit, and each kind has its byte and its
 -- layout. Assumes nothing.
-use mathlib.Core.Path.{_≡_, refl, sym, ap, ap₂}
-use mathlib.Core.Bool.{Bool, true, _&&_, false≢true, and-true, and-assoc}
+use mathlib.Core.Path.{_≡_, refl, sym, ap, ap₂, _∙_}
+use mathlib.Core.Bool.{Bool, true, false, cond, _&&_, false≢true, and-true, and-assoc}
 use mathlib.Core.List.{List, [], _∷_, map}
-use Prim.Native.Nat.{ℕ, zero, suc, _+_, _^_}
-use native.Mathlib.Omega.{arith}
+use Prim.Native.Nat.{ℕ, _^_}
 use lib.ListN.{getD, length-map}
 use lib.Dec.{ltb, eqb}
-use borrow.Author.Tests.{eqb-true}
+use borrow.Author.Tests.{eqb-true, ne-eqb}
 use Rattle.octets.specs.Octets.{isBytes}
-use Rattle.octets.proofs.Numbers.{both}
 use Rattle.rules.specs.Command.{Item, Command, Bank, Branch, Funding, Withdrawal, BankLimits, Payment, Change, Deletion, Query, Opening, every, isCode, isMethod, isDay, isHeader, isItem, wellFormed}
-use Rattle.frame.specs.Field.{Never, Row, Values, plainFits, rowFits, fits, may, areFields, allFit}
-use Rattle.frame.specs.Frame.{Kind, K01, K02, K03, K04, K05, K06, K07, K08, K09, K0a, kindByte, itemRow, idRow, fieldsOf, kinds, layout, kindOf, itemValues, idValues, valuesOf, itemOf, idOf, commandOf, kindAt}
+use Rattle.frame.specs.Field.{Field, Row, Values, plainFits, rowFits, fits, may, areFields, allFit}
+use Rattle.frame.specs.Frame.{Kind, K01, K02, K03, K04, K05, K06, K07, K08, K09, K0a, kindByte, itemRow, idRow, fieldsOf, kinds, withByte, kindsAt, layoutOf, layout, isFrame, kindOf, itemValues, idValues, valuesOf, itemOf, idOf, commandOf, commandIn, commandsOf}
 use Rattle.frame.proofs.Fields.{narrow}
 
 -- ---- lists
@@ -88,73 +86,78 @@ in-range (Opening d) = sym (and-true (ltb d (2 ^ 32)))
 
 -- ---- kinds
 
-pub kind-narrow : (k : Kind) → every narrow (fieldsOf k) ≡ true
-unfolding every narrow fieldsOf
-kind-narrow K01 = refl
-kind-narrow K02 = refl
-kind-narrow K03 = refl
-kind-narrow K04 = refl
-kind-narrow K05 = refl
-kind-narrow K06 = refl
-kind-narrow K07 = refl
-kind-narrow K08 = refl
-kind-narrow K09 = refl
-kind-narrow K0a = refl
+-- a kind has a byte, which is no other kind's, and fields whose numbers fit a byte
+pub record Known (k : Kind) : Type 0 where
+  pub byte : ltb (kindByte k) 256 ≡ true
+  pub alone : kindsAt (kindByte k) ≡ k ∷ []
+  pub fields : every narrow (fieldsOf k) ≡ true
+
+pub kind-known : (k : Kind) → Known k
+unfolding kindByte kindsAt every narrow fieldsOf
+kind-known K01 = record { byte = refl; alone = refl; fields = refl }
+kind-known K02 = record { byte = refl; alone = refl; fields = refl }
+kind-known K03 = record { byte = refl; alone = refl; fields = refl }
+kind-known K04 = record { byte = refl; alone = refl; fields = refl }
+kind-known K05 = record { byte = refl; alone = refl; fields = refl }
+kind-known K06 = record { byte = refl; alone = refl; fields = refl }
+kind-known K07 = record { byte = refl; alone = refl; fields = refl }
+kind-known K08 = record { byte = refl; alone = refl; fields = refl }
+kind-known K09 = record { byte = refl; alone = refl; fields = refl }
+kind-known K0a = record { byte = refl; alone = refl; fields = refl }
 
 pub kind-layout : (k : Kind) → layout (kindByte k) ≡ fieldsOf k
-unfolding kindByte layout kinds
-kind-layout K01 = refl
-kind-layout K02 = refl
-kind-layout K03 = refl
-kind-layout K04 = refl
-kind-layout K05 = refl
-kind-layout K06 = refl
-kind-layout K07 = refl
-kind-layout K08 = refl
-kind-layout K09 = refl
-kind-layout K0a = refl
+unfolding layout layoutOf
+kind-layout k = ap layoutOf (kind-known k .alone)
 
-pub kind-back : (k : Kind) → kindAt (kindByte k) ≡ k
-unfolding kindByte kindAt kinds
-kind-back K01 = refl
-kind-back K02 = refl
-kind-back K03 = refl
-kind-back K04 = refl
-kind-back K05 = refl
-kind-back K06 = refl
-kind-back K07 = refl
-kind-back K08 = refl
-kind-back K09 = refl
-kind-back K0a = refl
-
-pub kind-byte : (k : Kind) → ltb (kindByte k) 256 ≡ true
-unfolding kindByte
-kind-byte K01 = refl
-kind-byte K02 = refl
-kind-byte K03 = refl
-kind-byte K04 = refl
-kind-byte K05 = refl
-kind-byte K06 = refl
-kind-byte K07 = refl
-kind-byte K08 = refl
-kind-byte K09 = refl
-kind-byte K0a = refl
-
--- the kinds' bytes are the numbers from m on
-numbered : List Kind → ℕ → Bool
-numbered [] m = true
-numbered (k ∷ ks) m = eqb (kindByte k) m && numbered ks (suc m)
-
-kind-among : (ks : List Kind) (m n : ℕ) (b : List ℕ) (i : ℕ) → numbered ks m ≡ true → areFields (getD (map fieldsOf ks) n (Never ∷ [])) b i ≡ true → (k : Kind) × (m + n ≡ kindByte k)
-unfolding numbered areFields may
-kind-among [] m n b i o h = absurd (false≢true h)
-kind-among (k ∷ ks) m zero b i o h = (k, omega (arith, eqb-true (kindByte k) m (both (eqb (kindByte k) m) (numbered ks (suc m)) o .0)))
-kind-among (k ∷ ks) m (suc n) b i o h =
-    let r = kind-among ks (suc m) n b i (both (eqb (kindByte k) m) (numbered ks (suc m)) o .1) h in
-    (r .0, omega (arith, r .1))
+kind-among : (ks : List Kind) (n : ℕ) (b : List ℕ) (i : ℕ) → areFields (layoutOf (withByte n ks)) b i ≡ true → (k : Kind) × (n ≡ kindByte k)
+unfolding withByte layoutOf areFields may
+kind-among [] n b i h = absurd (false≢true h)
+kind-among (k ∷ ks) n b i h = go (eqb (kindByte k) n) refl (kind-among ks n b i) h
+  where
+    go : (t : Bool) → eqb (kindByte k) n ≡ t → (areFields (layoutOf (withByte n ks)) b i ≡ true → (j : Kind) × (n ≡ kindByte j))
+        → areFields (layoutOf (cond t (k ∷ withByte n ks) (withByte n ks))) b i ≡ true → (j : Kind) × (n ≡ kindByte j)
+    go true e f g = (k, sym (eqb-true (kindByte k) n e))
+    go false e f g = f g
 
 -- a byte whose layout some bytes have is a kind's
 pub kind-of-byte : (n : ℕ) (b : List ℕ) (i : ℕ) → areFields (layout n) b i ≡ true → (k : Kind) × (n ≡ kindByte k)
-unfolding kindByte layout kinds numbered areFields may
-kind-of-byte zero b i h = absurd (false≢true h)
-kind-of-byte (suc n) b i h = let r = kind-among kinds 1 n b i refl h in (r .0, omega (arith, r .1))
+unfolding layout
+kind-of-byte n b i h = kind-among kinds n b i h
+
+-- a byte that is no kind's
+pub kind-none : (b : List ℕ) → kindsAt (getD b 0 0) ≡ [] → isFrame b ≡ false
+unfolding isFrame layout areFields may
+kind-none b e = ap (λ (ks : List Kind). areFields (layoutOf ks) b 1) e
+
+-- that a byte is none of some kinds', as the last arm of a `match` has it whose other arms are these kinds
+unfoldable pub Rest : Type 0 → List Kind → ℕ → Type 0
+Rest A [] n = A
+Rest A (k ∷ ks) n = Rest (A × (n ≡ kindByte k → ⊥)) ks n
+
+pub rest-none : (A : Type 0) (ks : List Kind) (n : ℕ) → Rest A ks n → A × (withByte n ks ≡ [])
+unfolding Rest withByte
+rest-none A [] n r = (r, refl)
+rest-none A (k ∷ ks) n r =
+    let p = rest-none (A × (n ≡ kindByte k → ⊥)) ks n r in
+    (p .0 .0, rw (ne-eqb (kindByte k) n (λ e. p .0 .1 (sym e))) (p .1))
+
+-- the same, one after the other
+unfoldable pub Unless : List Kind → ℕ → Type 0 → Type 0
+Unless [] n A = A
+Unless (k ∷ ks) n A = (n ≡ kindByte k → ⊥) → Unless ks n A
+
+pub unless-none : (ks : List Kind) (n : ℕ) (A : Type 0) → (withByte n ks ≡ [] → A) → Unless ks n A
+unfolding Unless withByte
+unless-none [] n A f = f refl
+unless-none (k ∷ ks) n A f = λ h. unless-none ks n A (λ e. f (rw (ne-eqb (kindByte k) n (λ g. h (sym g))) e))
+
+-- ---- a frame of a known kind
+
+module _ (k : Kind) (b : List ℕ) (h : isFrame b ≡ true) (e : getD b 0 0 ≡ kindByte k) where
+  pub kind-fields : areFields (fieldsOf k) b 1 ≡ true
+  unfolding isFrame
+  kind-fields = ap (λ (fs : List Field). areFields fs b 1) (sym (kind-layout k) ∙ ap layout (sym e)) ∙ h
+
+  pub kind-command : commandsOf b ≡ commandIn b k ∷ []
+  unfolding commandsOf
+  kind-command = rw h (ap (map (commandIn b)) (ap kindsAt e ∙ kind-known k .alone))

@@ -1,19 +1,20 @@
 -- Laws behind the test of a frame: the layout that a kind byte chooses, how long a frame may be, and a buffer filled with one. Assumes nothing.
 use mathlib.Core.Path.{_≡_, refl, sym, ap, _∙_}
-use mathlib.Core.List.{List, [], _∷_, map}
-use mathlib.Core.Bool.{Bool, true, false, _&&_}
-use Prim.Native.Nat.{ℕ, zero, suc, _+_, _*_, _<_, _≤_}
+use mathlib.Core.List.{List, [], _∷_}
+use mathlib.Core.Bool.{Bool, true, false, cond, _&&_}
+use Prim.Native.Nat.{ℕ, _+_, _*_, _<_, _≤_}
 use native.Mathlib.Omega.{arith}
 use native.Mathlib.Nat.{mul-le-mul-right}
 use native.Mathlib.Decide.{decLe}
 use borrow.Author.Tests.{leb-true, eqb-true}
-use lib.ListN.{length, getD, List·getD-eq-default}
-use lib.Dec.{leb}
+use lib.ListN.{length, getD}
+use lib.Dec.{leb, eqb}
 use Rattle.octets.proofs.Numbers.{both}
 use Rattle.rules.specs.Command.{isCount}
 use Rattle.frame.specs.Field.{Field, Code, UpTo, Second, Free, Items, Never, size, rowSize, width, may, areFields}
-use Rattle.frame.specs.Frame.{kinds, fieldsOf, layout, isFrame}
+use Rattle.frame.specs.Frame.{Kind, kindByte, kinds, withByte, kindsAt, fieldsOf, layoutOf, layout, isFrame}
 use Rattle.frame.specs.Filled.{Filled}
+use Rattle.frame.proofs.Commands.{kind-none, Unless, unless-none}
 
 -- ---- the layout that the kind byte x chooses
 
@@ -30,17 +31,13 @@ kind-three b x r lo hi f g = go (decLe x 3)
     go (yes p) = kind b x 3 r (omega arith) f g
     go (no p) = kind b x 4 r (omega arith) f g
 
--- past the last kind there is none
-pub kind-none : (b : List ℕ) (x : ℕ) → 10 < x → x ≡ getD b 0 0 → false ≡ isFrame b
-unfolding layout kinds areFields may
-kind-none b x h f =
-    kind b x x false refl f (ap (λ (l : List Field). areFields l b 1) (sym (List·getD-eq-default ((Never ∷ []) ∷ map fieldsOf kinds) (Never ∷ []) h)))
+-- a byte that is no kind's
+pub kind-other : (b : List ℕ) (x : ℕ) → x ≡ getD b 0 0 → Unless kinds x (false ≡ isFrame b)
+unfolding kindsAt
+kind-other b x f = unless-none kinds x (false ≡ isFrame b) (λ e. sym (kind-none b (ap kindsAt (sym f) ∙ e)))
 
 pub from-three : (x : ℕ) → 1 ≤ x → (x ≡ 1 → ⊥) → (x ≡ 2 → ⊥) → 3 ≤ x
 from-three x h a b = omega arith
-
-pub past-ten : (x : ℕ) → 4 < x → (x ≡ 5 → ⊥) → (x ≡ 6 → ⊥) → (x ≡ 7 → ⊥) → (x ≡ 8 → ⊥) → (x ≡ 9 → ⊥) → (x ≡ 10 → ⊥) → 10 < x
-past-ten x h a b c d e f = omega arith
 
 -- ---- a frame has at most 352 bytes
 
@@ -73,20 +70,22 @@ fields-length (f ∷ fs) b i e =
     let h = both (may f b i) _ e in
     omega (arith, fields-length fs b (i + width f b i) (h .1), within f b i (h .0))
 
-short : List (List Field) → Bool
+short : List Kind → Bool
 short [] = true
-short (l ∷ ls) = leb (reach l) 351 && short ls
+short (k ∷ ks) = leb (reach (fieldsOf k)) 351 && short ks
 
-shorts : (ls : List (List Field)) → short ls ≡ true → (k : ℕ) → reach (getD ls k (Never ∷ [])) ≤ 351
-unfolding short reach most
-shorts [] e k = omega arith
-shorts (l ∷ ls) e zero = leb-true (reach l) 351 (both (leb (reach l) 351) _ e .0)
-shorts (l ∷ ls) e (suc k) = shorts ls (both (leb (reach l) 351) _ e .1) k
+shorts : (ks : List Kind) (n : ℕ) → short ks ≡ true → reach (layoutOf (withByte n ks)) ≤ 351
+unfolding short withByte layoutOf reach most
+shorts [] n e = omega arith
+shorts (k ∷ ks) n e =
+    let h = both (leb (reach (fieldsOf k)) 351) (short ks) e in
+    elim (eqb (kindByte k) n) as (λ (t : Bool). reach (layoutOf (cond t (k ∷ withByte n ks) (withByte n ks))) ≤ 351)
+    [ true ↦ leb-true (reach (fieldsOf k)) 351 (h .0) | false ↦ shorts ks n (h .1) ]
 
 pub frame-length : (b : List ℕ) → isFrame b ≡ true → length b ≤ 352
 unfolding isFrame layout kinds fieldsOf short reach most size rowSize
 frame-length b e =
-    let h : reach (layout (getD b 0 0)) ≤ 351 = shorts ((Never ∷ []) ∷ map fieldsOf kinds) refl (getD b 0 0) in
+    let h : reach (layout (getD b 0 0)) ≤ 351 = shorts kinds (getD b 0 0) refl in
     omega (arith, fields-length (layout (getD b 0 0)) b 1 e)
 
 -- ---- a buffer filled from byte 0

@@ -54,9 +54,25 @@ fieldsOf K0a = Free (Word 4) ∷ []
 unfoldable pub kinds : List Kind
 kinds = K01 ∷ K02 ∷ K03 ∷ K04 ∷ K05 ∷ K06 ∷ K07 ∷ K08 ∷ K09 ∷ K0a ∷ []
 
--- the fields that the kind byte chooses; an unknown kind has none that bytes could be
+-- those of some kinds whose byte n is
+unfoldable pub withByte : ℕ → List Kind → List Kind
+withByte n [] = []
+withByte n (k ∷ ks) = cond (eqb (kindByte k) n) (k ∷ withByte n ks) (withByte n ks)
+
+-- the kind that a byte is, or none
+unfoldable pub kindsAt : ℕ → List Kind
+unfolding kindByte kinds withByte
+kindsAt n = withByte n kinds
+
+-- the fields of a kind; where there is none, none that bytes could be
+unfoldable pub layoutOf : List Kind → List Field
+layoutOf [] = Never ∷ []
+layoutOf (k ∷ ks) = fieldsOf k
+
+-- the fields that the kind byte chooses
 unfoldable pub layout : ℕ → List Field
-layout n = getD ((Never ∷ []) ∷ map fieldsOf kinds) n (Never ∷ [])
+unfolding kindsAt layoutOf
+layout n = layoutOf (kindsAt n)
 
 -- well-formed: the bytes behind the kind byte are the kind's fields and no more
 unfoldable pub isFrame : List ℕ → Bool
@@ -122,16 +138,13 @@ commandOf K0a v = Opening (v .0)
 unfoldable pub frameOf : Command → List ℕ
 frameOf c = kindByte (kindOf c) ∷ allBytes (fieldsOf (kindOf c)) (valuesOf c)
 
--- K0a stands in where the byte is no kind, which no frame has
-unfoldable pub kindAt : ℕ → Kind
-kindAt n = getD (K0a ∷ kinds) n K0a
-
-unfoldable pub commandAt : List ℕ → Command
-commandAt b = commandOf (kindAt (getD b 0 0)) (allValues (fieldsOf (kindAt (getD b 0 0))) b 1)
+-- the command of a kind, its values read off bytes
+abbrev pub commandIn : List ℕ → Kind → Command
+commandIn b k = commandOf k (allValues (fieldsOf k) b 1)
 
 -- the command that bytes hold, or none
 unfoldable pub commandsOf : List ℕ → List Command
-commandsOf b = cond (isFrame b) (commandAt b ∷ []) []
+commandsOf b = cond (isFrame b) (map (commandIn b) (kindsAt (getD b 0 0))) []
 
 -- ---- what a reader and a writer give: the frame, or nothing where they refuse
 

@@ -1,11 +1,14 @@
 use mathlib.Core.Path.{sym, _∙_}
+use mathlib.Core.Bool.{false≢true}
 use native.Mathlib.Omega.{arith}
+use lib.ListN.{getD}
 use borrow.Author.Tests.{not-true, not-false}
 use Rattle.frame.specs.Field.{size, width, plainValue, valueOf, allValues}
-use Rattle.frame.specs.Frame.{K01, K02, K03, K04, K05, K06, K0a, kindByte, fieldsOf, commandOf}
+use Rattle.frame.specs.Frame.{K01, K02, K03, K04, K05, K06, K0a, kindByte, kinds, kindsAt, fieldsOf, commandOf}
+use Rattle.frame.proofs.Commands.{kind-none, Rest, rest-none}
 use Rattle.command.specs.View.{toCommands}
 use Rattle.octets.proofs.Places.{part-first}
-use Rattle.command.proofs.ByKind.{end, frame-some, frame-none, kind-length, kind-command, kind-none, ordered-is}
+use Rattle.command.proofs.ByKind.{end, frame-some, frame-none, kind-length, kind-command, ordered-is}
 use borrow.Author.Needs.{needs}
 use Rattle.command.proofs.parse.Statement.{statement}
 use Rattle.command.proofs.parse.Tie as tie
@@ -175,12 +178,12 @@ returns-11 c =
     ∙ sym (kind-command K0a b (sym (w .well-formed .ensures) ∙ not-false _ (c .before .before .before .before .if1 .left)) (c .before .before .match .keys10))
 
 returns-12 : tie.Need-returns-12
+unfolding kindByte kinds kindsAt Rest
 returns-12 c =
     let w = c .before .before .before .before in
-    let r = c .before .match .rest in
-    absurd
-    (kind-none (w .before .before .args .b .now) (sym (w .well-formed .ensures) ∙ not-false _ (c .before .before .before .if1 .left))
-    (r .0 .0 .0 .0 .0 .0 .0 .0 .0 .1) (r .0 .0 .0 .0 .0 .0 .0 .0 .1) (r .0 .0 .0 .0 .0 .0 .0 .1) (r .0 .0 .0 .0 .0 .0 .1) (r .0 .0 .0 .0 .0 .1) (r .0 .0 .0 .0 .1) (r .0 .0 .0 .1) (r .0 .0 .1) (r .0 .1) (r .1))
+    let b = w .before .before .args .b .now in
+    let none = kind-none b (rest-none (Unit {0}) kinds (getD b 0 0) (c .before .match .rest) .1) in
+    absurd (false≢true (sym none ∙ sym (w .well-formed .ensures) ∙ not-false _ (c .before .before .before .if1 .left)))
 
 pub parse-spec : {M : Type 1} → statement M
 parse-spec =

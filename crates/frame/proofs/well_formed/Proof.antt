@@ -2,8 +2,9 @@ use mathlib.Core.Path.{refl}
 use native.Mathlib.Omega.{arith}
 use Rattle.rules.specs.Command.{isMethod}
 use Rattle.frame.specs.Field.{size, rowSize, width, may, areFields}
-use Rattle.frame.specs.Frame.{kinds, fieldsOf, layout}
-use Rattle.frame.proofs.Layouts.{kind, kind-three, kind-none, past-ten, from-three}
+use Rattle.frame.specs.Frame.{kindByte, kinds, fieldsOf, layout}
+use Rattle.frame.proofs.Layouts.{kind, kind-three, kind-other, from-three}
+use Rattle.frame.proofs.Commands.{Unless}
 use borrow.Author.Needs.{needs}
 use Rattle.frame.proofs.well_formed.Statement.{statement}
 use Rattle.frame.proofs.well_formed.Tie as tie
@@ -72,13 +73,13 @@ is-code-at-requires-10 : tie.Need-is-code-at-requires-10
 is-code-at-requires-10 c κs = search needs
 
 returns : tie.Need-returns
-unfolding areFields may width size rowSize layout kinds fieldsOf
+unfolding areFields may width size rowSize layout fieldsOf
 returns c =
     let a = c .before in
     kind _ _ 1 _ (a .match .keys1) (a .before .at .ensures) (rw (c .is-code-at .ensures))
 
 returns-2 : tie.Need-returns-2
-unfolding isMethod areFields may width size rowSize layout kinds fieldsOf
+unfolding isMethod areFields may width size rowSize layout fieldsOf
 returns-2 c =
     let a = c .before .before .before .before .before .before in
     kind _ _ 2 _ (a .match .keys2) (a .before .at .ensures)
@@ -92,41 +93,41 @@ returns-2 c =
     ))
 
 returns-3 : tie.Need-returns-3
-unfolding areFields may width size rowSize layout kinds fieldsOf
+unfolding areFields may width size rowSize layout fieldsOf
 returns-3 c =
     let a = c .before in
     kind _ _ 5 _ (a .match .keys3) (a .before .at .ensures) (rw (c .is-code-at4 .ensures))
 
 returns-4 : tie.Need-returns-4
-unfolding areFields may width size rowSize layout kinds fieldsOf
+unfolding areFields may width size rowSize layout fieldsOf
 returns-4 c =
     let a = c .before .before .before in
     kind _ _ 6 _ (a .match .keys4) (a .before .at .ensures) (rw (c .is-code-at6 .ensures, c .before .is-code-at5 .ensures, c .before .before .at4 .ensures))
 
 returns-5 : tie.Need-returns-5
-unfolding areFields may width size rowSize layout kinds fieldsOf
+unfolding areFields may width size rowSize layout fieldsOf
 returns-5 c =
     let a = c .before .before .before in
     kind _ _ 7 _ (a .match .keys5) (a .before .at .ensures) (rw (c .rows-at .ensures, c .before .second-at .ensures, c .before .before .is-code-at7 .ensures))
 
 returns-6 : tie.Need-returns-6
-unfolding areFields may width size rowSize layout kinds fieldsOf
+unfolding areFields may width size rowSize layout fieldsOf
 returns-6 c =
     let a = c .before .before in
     kind _ _ 8 _ (a .match .keys6) (a .before .at .ensures) (rw (c .second-at2 .ensures, c .before .is-code-at8 .ensures))
 
 returns-7 : tie.Need-returns-7
-unfolding areFields may width size rowSize layout kinds fieldsOf
+unfolding areFields may width size rowSize layout fieldsOf
 returns-7 c =
     let a = c .before .before .before in
     kind _ _ 9 _ (a .match .keys7) (a .before .at .ensures) (rw (c .rows-at2 .ensures, c .before .second-at3 .ensures, c .before .before .is-code-at9 .ensures))
 
 returns-8 : tie.Need-returns-8
-unfolding areFields may width size rowSize layout kinds fieldsOf
+unfolding areFields may width size rowSize layout fieldsOf
 returns-8 c = kind _ _ 10 _ (c .match .keys8) (c .before .at .ensures) refl
 
 returns-9 : tie.Need-returns-9
-unfolding areFields may width size rowSize layout kinds fieldsOf
+unfolding areFields may width size rowSize layout fieldsOf
 returns-9 c =
     let a = c .before .before .before in
     let r = a .match .rest in
@@ -137,15 +138,16 @@ returns-9 c =
     (rw (c .is-code-at10 .ensures))
 
 returns-10 : tie.Need-returns-10
-unfolding areFields may width size rowSize layout kinds fieldsOf
+unfolding areFields may width size rowSize layout fieldsOf
 returns-10 c = kind _ _ 0 _ (omega arith) (c .before .before .at .ensures) refl
 
 returns-11 : tie.Need-returns-11
+unfolding kindByte kinds Unless
 returns-11 c =
     let r = c .before .before .match .rest in
-    kind-none _ _
-    (past-ten _ (c .if2 .left) (r .0 .0 .0 .0 .0 .1) (r .0 .0 .0 .0 .1) (r .0 .0 .0 .1) (r .0 .0 .1) (r .0 .1) (r .1))
-    (c .before .before .before .at .ensures)
+    let h = c .if2 .left in
+    kind-other _ _ (c .before .before .before .at .ensures) (r .0 .0 .0 .0 .0 .0 .0 .1) (r .0 .0 .0 .0 .0 .0 .1) (λ e. omega arith) (λ e. omega arith)
+    (r .0 .0 .0 .0 .0 .1) (r .0 .0 .0 .0 .1) (r .0 .0 .0 .1) (r .0 .0 .1) (r .0 .1) (r .1)
 
 pub well-formed-spec : {M : Type 1} → statement M
 well-formed-spec =
