@@ -1,5 +1,4 @@
--- What `parse` and `write_frame` promise, taken together: what was written is parsed as the command that was given, and what was parsed is written as the
--- frame that it came from. Assumes nothing.
+-- The round trips of frames, from what `parse` and `write_frame` ensure. Assumes nothing.
 use mathlib.Core.Path.{_≡_, refl, sym, ap, _∙_}
 use mathlib.Core.Bool.{Bool, true, false, cond}
 use mathlib.Core.List.{List, [], _∷_}
@@ -14,13 +13,14 @@ use borrow.Author.Tests.{le-leb}
 use Rattle.octets.specs.Octets.{areBytes}
 use Rattle.rules.specs.Command as Rule
 use Rattle.rules.specs.Command.{wellFormed}
-use Rattle.frame.specs.Frame.{isFrame, frameOf, commandAt, commandsOf, given, commandFrame, writeFrame}
+use Rattle.frame.specs.Frame.{isFrame, frameOf, commandsOf, given, commandFrame, writeFrame}
 use Rattle.frame.specs.Filled.{Filled}
-use Rattle.frame.proofs.OneToOneProof.{one-to-one}
+use Rattle.frame.proofs.OneToOneProof.{carries, carried, one-to-one}
 use Rattle.command.specs.declared.Command.{Command}
 use Rattle.command.specs.declared.Command.the-variants.{Nothing, Bank, Branch, Funding, Withdrawal, BankLimits, Payment, Change, Deletion, Query, Opening}
 use Rattle.command.specs.declared.Order.{Order}
 use Rattle.command.specs.View.{toCommands, ordered}
+use Rattle.writer.specs.RoundTrip.{RoundTrip}
 
 -- ---- an order holds one command or none
 
@@ -71,16 +71,14 @@ front got entry exit r w = ap (take r) (w .bytes-are) ∙ take-at got (drop (len
 
 -- ---- together
 
--- an order whose command is in range, and a buffer with room, are not refused
-pub accepted : (o : Order) (c : Rule.Command) (entry exit : List ℕ) (r : ℕ) → ordered o ≡ c ∷ [] → wellFormed c ≡ true → 352 ≤ length entry
+accepted : (o : Order) (c : Rule.Command) (entry exit : List ℕ) (r : ℕ) → ordered o ≡ c ∷ [] → wellFormed c ≡ true → 352 ≤ length entry
     → Filled (writeFrame (ordered o) (length entry)) entry exit r → 0 < r
 unfolding writeFrame given commandFrame frameOf
 accepted o c entry exit r e h room w =
     let f : writeFrame (ordered o) (length entry) ≡ frameOf c = rw (e, le-leb 352 (length entry) room, h) in
     omega (arith, w .length-is, ap length f)
 
--- parsing what was written gives the command that was given
-pub written-parsed : (o p : Order) (entry exit : List ℕ) (r : ℕ) → Filled (writeFrame (ordered o) (length entry)) entry exit r → 0 < r
+written-parsed : (o p : Order) (entry exit : List ℕ) (r : ℕ) → Filled (writeFrame (ordered o) (length entry)) entry exit r → 0 < r
     → ordered p ≡ commandsOf (take r exit) → ordered p ≡ ordered o
 written-parsed o p entry exit r w h e = go (ordered-one o)
   where
@@ -91,12 +89,13 @@ written-parsed o p entry exit r w h e = go (ordered-one o)
         let f = frame-written (d .0) (length entry) (omega (arith, w .length-is, ap length g)) in
         e ∙ ap commandsOf (front (writeFrame (ordered o) (length entry)) entry exit r w ∙ g ∙ f .1) ∙ one-to-one .frame-holds (d .0) (f .0) ∙ sym (d .1)
 
--- and writing what was parsed gives the frame that it came from
-pub parsed-written : (b : List ℕ) (p : Order) (entry exit : List ℕ) (r : ℕ) → areBytes b ≡ true → isFrame b ≡ true → 352 ≤ length entry
+parsed-written : (b : List ℕ) (p : Order) (entry exit : List ℕ) (r : ℕ) → areBytes b ≡ true → isFrame b ≡ true → 352 ≤ length entry
     → ordered p ≡ commandsOf b → Filled (writeFrame (ordered p) (length entry)) entry exit r → Filled b entry exit r
-unfolding commandsOf writeFrame given commandFrame
+unfolding writeFrame given commandFrame
 parsed-written b p entry exit r a h room e w =
-    let one : commandsOf b ≡ commandAt b ∷ [] = ap (λ (t : Bool). cond t (commandAt b ∷ []) []) h in
-    let range = one-to-one .held-in-range b (commandAt b) a one in
-    let same : writeFrame (ordered p) (length entry) ≡ b = rw (e ∙ one, le-leb 352 (length entry) room, range) (one-to-one .held-frame b (commandAt b) a one) in
+    let k = carries b a h in
+    let same : writeFrame (ordered p) (length entry) ≡ b = rw (e ∙ carried b a h, le-leb 352 (length entry) room, k .in-range) (k .framed) in
     rw same at w
+
+pub round-trip : RoundTrip
+round-trip = record { accepted = accepted; written-parsed = written-parsed; parsed-written = parsed-written }
