@@ -15,7 +15,7 @@ use Rattle.rules.specs.Message.{isDigit}
 use Rattle.frame.specs.Hex.{nibble, isLetter, isHex, allHex, unhex}
 use Rattle.frame.specs.Frame.{isFrame, lineFrame, given, readFrame}
 use Rattle.frame.proofs.Layouts.{frame-length}
-use Rattle.reader.specs.Unpacked.{isPacked, Unpacked}
+use Rattle.reader.specs.Unpacked.{DigitValues, isPacked, Unpacked}
 
 -- ---- tests
 
@@ -81,6 +81,10 @@ nibble-bits d e = go (isDigit d) refl e
         let hi = leb-true d 102 (h .1) in
         let v : d % 16 + d / 64 * 9 ≡ d - 87 = omega arith in
         (rw f v, omega arith)
+
+-- at a digit's place its value
+pub digit-at : (values : List ℕ) (d : ℕ) → DigitValues values → isHex d ≡ true → getD values d 0 ≡ nibble d
+digit-at values d v h = v .place d (hex-below d h) ∙ nibble-bits d h .0
 
 -- ---- the bytes of digits
 

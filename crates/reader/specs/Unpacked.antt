@@ -2,16 +2,16 @@
 use mathlib.Core.Path.{_≡_}
 use mathlib.Core.Bool.{Bool, true, cond, _&&_}
 use mathlib.Core.List.{List, _++_}
-use Prim.Native.Nat.{ℕ, _/_, _%_}
+use Prim.Native.Nat.{ℕ, _+_, _*_, _/_, _%_, _<_}
 use lib.Dec.{eqb, leb}
 use lib.ListN.{length, getD, take, drop}
-use Rattle.frame.specs.Hex.{isHex, allHex, nibble, unhex}
+use Rattle.frame.specs.Hex.{allHex, unhex}
 use Rattle.frame.specs.Frame.{lineFrame}
 
--- at each hexadecimal digit's place its value
+-- 128 places, and at each the sum that is a hexadecimal digit's value where the place is one
 pub record DigitValues (values : List ℕ) : Type 0 where
   pub long : length values ≡ 128
-  pub value : (d : ℕ) → isHex d ≡ true → getD values d 0 ≡ nibble d
+  pub place : (d : ℕ) → d < 128 → getD values d 0 ≡ d % 16 + d / 64 * 9
 
 -- pairs of hexadecimal digits, of at most 352 bytes
 unfoldable pub isPacked : List ℕ → Bool

@@ -1,6 +1,5 @@
-use mathlib.Core.Path.{_∙_}
 use native.Mathlib.Omega.{arith}
-use Rattle.reader.proofs.Reader.{nibble-bits, hex-below}
+use Rattle.reader.proofs.Reader.{hex-below, nibble-bits, digit-at}
 use Rattle.reader.proofs.digit_value.Statement.{statement}
 use Rattle.reader.proofs.digit_value.Tie as tie
 
@@ -10,7 +9,7 @@ shared-slice-read-result c = let s = c .before in omega (arith, s .pre .0 .long,
 returns : tie.Need-returns
 returns c =
     let s = c .before in
-    let e = s .pre .0 .value (s .args .d) (s .pre .1) in
+    let e = digit-at _ (s .args .d) (s .pre .0) (s .pre .1) in
     let n = nibble-bits (s .args .d) (s .pre .1) in
     (e, omega (arith, e, n .0, n .1))
 

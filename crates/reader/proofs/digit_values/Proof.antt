@@ -5,7 +5,6 @@ use native.Mathlib.Omega.{arith}
 use borrow.Author.Count.{below-none, below-more}
 use lib.ListN.{length, getD, set, length-set}
 use lib.Seq.{getD-set-same, getD-set-other}
-use Rattle.reader.proofs.Reader.{nibble-bits, hex-below}
 use Rattle.reader.proofs.digit_values.Statement.{statement}
 use Rattle.reader.proofs.digit_values.Tie as tie
 
@@ -50,7 +49,7 @@ loop-again c =
 returns : tie.Need-returns Inv-loop μ-loop
 returns c =
     let l = c .before .loop in
-    record { long = l .inv .1; value = λ d h. l .inv .2 d (omega (arith, hex-below d h)) ∙ nibble-bits d h .0 }
+    record { long = l .inv .1; place = λ d h. l .inv .2 d (omega arith) }
 
 pub digit-values-spec : {M : Type 1} → statement M
 digit-values-spec =
