@@ -92,12 +92,12 @@ last-most (b ∷ line) = echo-most (b ∷ line)
 
 -- ---- bytes behind bytes
 
-begun-then : (line t u : List ℕ) → begun line (t ++ u) ≡ begun (begun line t) u
+pub begun-then : (line t u : List ℕ) → begun line (t ++ u) ≡ begun (begun line t) u
 unfolding begun
 begun-then line [] u = refl
 begun-then line (b ∷ t) u = begun-then (cond (eqb b 10) [] (grown line b)) t u
 
-printed-then : (line t u : List ℕ) → printed line (t ++ u) ≡ printed line t ++ printed (begun line t) u
+pub printed-then : (line t u : List ℕ) → printed line (t ++ u) ≡ printed line t ++ printed (begun line t) u
 unfolding begun printed
 printed-then line [] u = refl
 printed-then line (b ∷ t) u =

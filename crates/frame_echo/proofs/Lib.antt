@@ -1,2 +1,3 @@
 pub mod Laws
 pub mod Begun
+pub mod LinesProof
