@@ -35,7 +35,7 @@ same-length-3 : tie.Need-same-length-3
 same-length-3 c = search needs
 
 returns-2 : tie.Need-returns-2
-returns-2 c = let s = c .before .before .before .before in step-more _ _ _ _ _ (c .before .if1 .left) (c .if2 .taken) (s .pre .0)
+returns-2 c = let s = c .before .before .before .before in step-more _ _ _ _ _ (c .before .if1 .left) (omega (arith, c .if2 .taken)) (s .pre .0)
 
 returns-3 : tie.Need-returns-3
 returns-3 c = let s = c .before .before .before .before in step-full _ _ _ _ _ (c .before .if1 .left) (omega (arith, s .pre .1, c .if2 .left)) (s .pre .0)
