@@ -1,5 +1,8 @@
 // Whether bytes are a frame.
 ghost use mathlib.Core.Path.{_≡_};
+ghost use mathlib.Core.Bool.{cond};
+ghost use mathlib.Core.List.{[]};
+ghost use lib.ListN.{length};
 ghost use Rattle.frame.specs.Frame.{isFrame};
 use field_tests::at;
 use field_tests::is_code_at;
@@ -28,4 +31,11 @@ pub fn well_formed(b: &[u8]) -> bool
         10 => n == 5,
         _ => false,
     }
+}
+
+// How many bytes the frame has that b is: 0 where b is none.
+pub fn frame_length(b: &[u8]) -> usize
+    ensures { λ r. ⌜ r ≡ length (cond (isFrame (now (b .entry))) (now (b .entry)) []) ⌝ }
+{
+    if well_formed(b) { b.len() } else { 0 }
 }

@@ -6,16 +6,17 @@ use Prim.Native.Nat.{ℕ, zero, suc, _+_, _-_, _*_, _/_, _%_, _<_, _≤_}
 use native.Mathlib.Omega.{arith}
 use native.Mathlib.Nat.{zero-add}
 use native.Mathlib.Numerals.{add-one}
-use borrow.Author.Tests.{le-leb, lt-leb, leb-true, eq-eqb, ne-eqb}
-use lib.ListN.{length, getD, take, drop, set, drop-of-length-le}
+use borrow.Author.Tests.{le-leb, lt-leb, leb-true, leb-false, eq-eqb, ne-eqb}
+use lib.ListN.{length, getD, take, drop, set, length-append, length-take, drop-of-length-le}
 use lib.Seq.{drop-cons, paste-suc, take-all, take-at}
-use lib.Dec.{leb}
+use lib.Dec.{leb, eqb}
 use Rattle.octets.proofs.Numbers.{both}
 use Rattle.rules.specs.Message.{isDigit}
 use Rattle.frame.specs.Hex.{nibble, isLetter, isHex, allHex, unhex}
 use Rattle.frame.specs.Frame.{isFrame, lineFrame, given, readFrame}
 use Rattle.frame.proofs.Layouts.{frame-length}
-use Rattle.reader.specs.Unpacked.{DigitValues, isPacked, Unpacked}
+use Rattle.frame.specs.Filled.{Filled}
+use Rattle.reader.specs.Unpacked.{DigitValues, isPacked, unpacked}
 
 -- ---- tests
 
@@ -117,28 +118,17 @@ taken line last d e = rw e (take-at (unhex line) (drop (length line / 2) d) (len
 -- ---- the frame that a line is
 
 module _ (line : List ℕ) where
-  pub odd : (length line % 2 ≡ 0 → ⊥) → lineFrame line ≡ []
-  unfolding lineFrame
-  odd h = ap (λ (t : Bool). cond ((t && allHex line) && isFrame (unhex line)) (unhex line) []) (ne-eqb (length line % 2) 0 h)
-
-  pub not-hex : allHex line ≡ false → lineFrame line ≡ []
-  unfolding lineFrame
-  not-hex e = rw (e, both-false)
-
-  pub bad : isFrame (unhex line) ≡ false → lineFrame line ≡ []
-  unfolding lineFrame
-  bad e = rw (e, both-false)
-
-  pub long : 352 < length line / 2 → lineFrame line ≡ []
-  long h = bad (go (isFrame (unhex line)) refl)
+  -- no frame has over 352 bytes
+  too-long : 352 < length line / 2 → isFrame (unhex line) ≡ false
+  too-long h = go (isFrame (unhex line)) refl
     where
       go : (t : Bool) → isFrame (unhex line) ≡ t → t ≡ false
       go true e = absurd (omega (arith, frame-length (unhex line) e, unhex-length line))
       go false e = refl
 
-  pub good : length line % 2 ≡ 0 → allHex line ≡ true → isFrame (unhex line) ≡ true → lineFrame line ≡ unhex line
+  pub long : 352 < length line / 2 → lineFrame line ≡ []
   unfolding lineFrame
-  good v e f = rw (eq-eqb (length line % 2) 0 v, e, f)
+  long h = rw (too-long h, both-false)
 
   -- read into a buffer of `room` bytes
   pub no-room : (room : ℕ) → room < 352 → readFrame line room ≡ []
@@ -151,35 +141,71 @@ module _ (line : List ℕ) where
 
 -- ---- unpacked
 
--- nothing is written
-module _ (line entry : List ℕ) where
-  unread : isPacked line ≡ false → lineFrame line ≡ [] → Unpacked line entry entry 0
-  unread p e = record { length-is = rw e refl; frame-is = rw e refl; bytes-are = rw p refl }
+no-bytes : (b : Bool) (none : List ℕ) → cond b none none ≡ none
+no-bytes true none = refl
+no-bytes false none = refl
 
-  pub unread-odd : (length line % 2 ≡ 0 → ⊥) → Unpacked line entry entry 0
-  unfolding isPacked
-  unread-odd h = unread (ap (λ (t : Bool). (t && leb (length line / 2) 352) && allHex line) (ne-eqb (length line % 2) 0 h)) (odd line h)
+module _ (line : List ℕ) where
+  pub unread-odd : (length line % 2 ≡ 0 → ⊥) → unpacked line ≡ []
+  unfolding unpacked isPacked
+  unread-odd h = ap (λ (t : Bool). cond ((t && leb (length line / 2) 352) && allHex line) (unhex line) []) (ne-eqb (length line % 2) 0 h)
 
-  pub unread-long : 352 < length line / 2 → Unpacked line entry entry 0
-  unfolding isPacked
-  unread-long h = unread (rw (lt-leb (length line / 2) 352 h, both-false) refl) (long line h)
+  pub unread-long : 352 < length line / 2 → unpacked line ≡ []
+  unfolding unpacked isPacked
+  unread-long h = rw (lt-leb (length line / 2) 352 h, both-false) refl
 
-  pub unread-other : allHex line ≡ false → Unpacked line entry entry 0
-  unfolding isPacked
-  unread-other e = unread (rw (e, both-false) refl) (not-hex line e)
+  pub unread-other : allHex line ≡ false → unpacked line ≡ []
+  unfolding unpacked isPacked
+  unread-other e = rw (e, both-false) refl
 
-  -- the line's bytes are written
-  module _ (v : length line % 2 ≡ 0) (s : length line / 2 ≤ 352) (x : allHex line ≡ true) (exit : List ℕ) (w : exit ≡ unhex line ++ drop (length line / 2) entry) where
-    written : exit ≡ cond (isPacked line) (unhex line ++ drop (length line / 2) entry) entry
-    unfolding isPacked
-    written = rw (eq-eqb (length line % 2) 0 v, le-leb (length line / 2) 352 s, x) w
+  pub read-digits : length line % 2 ≡ 0 → length line / 2 ≤ 352 → allHex line ≡ true → (entry exit : List ℕ) → exit ≡ unhex line ++ drop (length line / 2) entry
+      → Filled (unpacked line) entry exit (length line / 2)
+  unfolding unpacked isPacked
+  read-digits v s x entry exit w =
+      rw (eq-eqb (length line % 2) 0 v, le-leb (length line / 2) 352 s, x)
+      (record { length-is = sym (unhex-length line); bytes-are = rw (unhex-length line) w })
 
-    pub no-frame : isFrame (unhex line) ≡ false → Unpacked line entry exit 0
-    no-frame e = record { length-is = rw (bad line e) refl; frame-is = rw (bad line e) refl; bytes-are = written }
+  -- the frame that a line is, told of its bytes
+  pub line-frame : cond (isFrame (unpacked line)) (unpacked line) [] ≡ lineFrame line
+  unfolding unpacked isPacked lineFrame
+  line-frame = go (eqb (length line % 2) 0) (leb (length line / 2) 352) (allHex line) (λ e. too-long line (leb-false (length line / 2) 352 e))
+    where
+      go : (a b c : Bool) → (b ≡ false → isFrame (unhex line) ≡ false)
+          → cond (isFrame (cond ((a && b) && c) (unhex line) [])) (cond ((a && b) && c) (unhex line) []) [] ≡ cond ((a && c) && isFrame (unhex line)) (unhex line) []
+      go true true true h = refl
+      go true true false h = no-bytes (isFrame []) []
+      go true false true h = no-bytes (isFrame []) [] ∙ sym (ap (λ (t : Bool). cond t (unhex line) []) (h refl))
+      go true false false h = no-bytes (isFrame []) []
+      go false b c h = no-bytes (isFrame []) []
 
-    pub is-frame : isFrame (unhex line) ≡ true → Unpacked line entry exit (length line / 2)
-    is-frame e = record {
-      length-is = sym (ap length (good line v x e) ∙ unhex-length line);
-      frame-is = taken line exit entry w ∙ sym (good line v x e);
-      bytes-are = written;
-    }
+-- the frame that a line is stands from byte 0 on and has n bytes
+pub record FrameAt (line bytes : List ℕ) (n : ℕ) : Type 0 where
+  pub length-is : n ≡ length (lineFrame line)
+  pub frame-is : take n bytes ≡ lineFrame line
+
+pub frame-within : (line bytes : List ℕ) (n : ℕ) → FrameAt line bytes n → n ≤ length bytes
+frame-within line bytes n f = omega (arith, f .length-is, simp length-take at (ap length (f .frame-is)))
+
+-- unpacked into a buffer
+module _ (line entry exit : List ℕ) (m : ℕ) (f : Filled (unpacked line) entry exit m) where
+  pub bytes-within : m ≤ length exit
+  bytes-within = omega (arith, f .length-is, ap length (f .bytes-are), length-append (unpacked line) (drop (length (unpacked line)) entry))
+
+  front : take m exit ≡ unpacked line
+  front = rw (f .bytes-are) (take-at (unpacked line) (drop (length (unpacked line)) entry) m (sym (f .length-is)))
+
+  pub frame-at : (n : ℕ) → n ≡ length (cond (isFrame (take m exit)) (take m exit) []) → FrameAt line exit n
+  frame-at n e = record { length-is = long; frame-is = go (isFrame (unpacked line)) refl }
+    where
+      long : n ≡ length (lineFrame line)
+      long = e ∙ ap (λ (b : List ℕ). length (cond (isFrame b) b [])) front ∙ ap length (line-frame line)
+
+      go : (b : Bool) → isFrame (unpacked line) ≡ b → take n exit ≡ lineFrame line
+      go true t =
+          let all : lineFrame line ≡ unpacked line = sym (line-frame line) ∙ ap (λ (b : Bool). cond b (unpacked line) []) t in
+          let same : n ≡ m = long ∙ ap length all ∙ sym (f .length-is) in
+          ap (λ (k : ℕ). take k exit) same ∙ front ∙ sym all
+      go false t =
+          let none : lineFrame line ≡ [] = sym (line-frame line) ∙ ap (λ (b : Bool). cond b (unpacked line) []) t in
+          let zero : n ≡ 0 = long ∙ ap length none in
+          ap (λ (k : ℕ). take k exit) zero ∙ sym none

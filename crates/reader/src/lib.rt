@@ -7,9 +7,9 @@ ghost use lib.ListN.{length, drop};
 ghost use Rattle.frame.specs.Hex.{isHex, allHex, nibble, unhex};
 ghost use Rattle.frame.specs.Frame.{readFrame};
 ghost use Rattle.frame.specs.Filled.{Filled};
-ghost use Rattle.reader.specs.Unpacked.{DigitValues, Unpacked};
+ghost use Rattle.reader.specs.Unpacked.{DigitValues, unpacked};
 use digits::is_digit;
-use frame::well_formed;
+use frame::frame_length;
 
 // A lowercase hexadecimal digit.
 fn is_hex(d: u8) -> bool
@@ -77,10 +77,11 @@ fn copy(src: &[u8], dst: &mut [u8]) -> usize
     i
 }
 
-// The bytes of a line, from byte 0 of the buffer on, and the length of the frame that they are: 0 where they are none.
+// Writes the bytes that a line's digits are from byte 0 on and returns how many. Where the line is no even number of hexadecimal digits, or has over 704 of
+// them, it returns 0 and leaves the buffer as it was.
 pub fn unpack(line: &[u8], buf: &mut [u8], values: &[u8]) -> usize
     requires { ⌜ (352 ≤ length (now buf)) × (DigitValues (now values)) ⌝ }
-    ensures { λ r. ⌜ Unpacked (now (line .entry)) (now (buf .entry)) (now (buf .exit)) r ⌝ }
+    ensures { λ r. ⌜ Filled (unpacked (now (line .entry))) (now (buf .entry)) (now (buf .exit)) r ⌝ }
 {
     if line.len() % 2 != 0 {
         return 0;
@@ -93,9 +94,6 @@ pub fn unpack(line: &[u8], buf: &mut [u8], values: &[u8]) -> usize
         return 0;
     }
     decode(line, n, buf, values);
-    if !well_formed(&buf[..n]) {
-        return 0;
-    }
     n
 }
 
@@ -110,6 +108,7 @@ pub extern "C" fn read_frame(line: &[u8], frame: &mut [u8]) -> usize
     }
     let values = digit_values();
     let mut buf = [0u8; 352];
-    let n = unpack(line, &mut buf, &values);
+    let m = unpack(line, &mut buf, &values);
+    let n = frame_length(&buf[..m]);
     copy(&buf[..n], frame)
 }

@@ -2,15 +2,15 @@
 use mathlib.Core.Path.{_≡_, refl, sym, ap, _∙_}
 use mathlib.Core.Bool.{Bool, true, false, not, cond, _&&_}
 use mathlib.Core.List.{List, [], _∷_}
-use Prim.Native.Nat.{ℕ, _%_, _≤_, _<_}
+use Prim.Native.Nat.{ℕ, _%_, _<_}
 use native.Mathlib.Omega.{arith}
 use lib.Dec.{eqb}
-use lib.ListN.{length, take, getD, length-take}
+use lib.ListN.{length, take, getD}
 use lib.Seq.{length-take-le, getD-take}
 use borrow.Author.Tests.{eqb-true, eqb-false, not-true}
 use Rattle.frame.specs.Hex.{allHex, unhex}
 use Rattle.frame.specs.Frame.{isFrame, commandsOf, lineFrame}
-use Rattle.reader.specs.Unpacked.{Unpacked}
+use Rattle.reader.proofs.Reader.{FrameAt, frame-within}
 use Rattle.octets.proofs.Numbers.{both}
 use Rattle.table.specs.declared.Table.{Table}
 use Rattle.table.specs.declared.Outcome.{Outcome}
@@ -31,26 +31,17 @@ line-formed l = go ((eqb (length l % 2) 0 && allHex l) && isFrame (unhex l)) ref
     go true e h = both (eqb (length l % 2) 0 && allHex l) (isFrame (unhex l)) e .1
     go false e h = absurd (omega arith)
 
--- unpacked into a buffer
-module _ (line buf buf′ : List ℕ) (n : ℕ) (f : Unpacked line buf buf′ n) where
-  pub frame-within : n ≤ length buf′
-  frame-within = omega (arith, f .length-is, simp length-take at (ap length (f .frame-is)))
+-- that stands from byte 0 on
+module _ (line bytes : List ℕ) (n : ℕ) (f : FrameAt line bytes n) where
+  pub frame-long : length (take n bytes) ≡ n
+  frame-long = length-take-le n bytes (frame-within line bytes n f)
 
-  pub frame-long : length (take n buf′) ≡ n
-  frame-long = length-take-le n buf′ frame-within
-
-  some-formed : 0 < n → isFrame (take n buf′) ≡ true
-  some-formed h = ap isFrame (f .frame-is) ∙ line-formed line (omega (arith, f .length-is, h))
-
-  pub frame-formed : n ≡ 22 → (isFrame (take n buf′) ≡ true) × (length (take n buf′) ≡ 22)
-  frame-formed e = (some-formed (omega (arith, e)), frame-long ∙ e)
-
-  -- of kind 09
-  pub query-formed : (not (eqb n 0) && eqb (getD buf′ 0 0) 9) ≡ true → (isFrame (take n buf′) ≡ true) × (getD (take n buf′) 0 0 ≡ 9)
-  query-formed e =
-      let h = both (not (eqb n 0)) (eqb (getD buf′ 0 0) 9) e in
+  -- of kind k
+  pub kind-formed : (k : ℕ) → (not (eqb n 0) && eqb (getD bytes 0 0) k) ≡ true → (isFrame (take n bytes) ≡ true) × (getD (take n bytes) 0 0 ≡ k)
+  kind-formed k e =
+      let h = both (not (eqb n 0)) (eqb (getD bytes 0 0) k) e in
       let some : 0 < n = omega (arith, eqb-false n 0 (not-true (eqb n 0) (h .0))) in
-      (some-formed some, getD-take n buf′ 0 0 some ∙ eqb-true (getD buf′ 0 0) 9 (h .1))
+      (ap isFrame (f .frame-is) ∙ line-formed line (omega (arith, f .length-is, some)), getD-take n bytes 0 0 some ∙ eqb-true (getD bytes 0 0) k (h .1))
 
 -- ---- what a turn leaves behind
 

@@ -2,6 +2,7 @@
 ghost use Rattle.promise.specs.Promise.{Sound};
 ghost use Rattle.run.specs.Run.{RanIs};
 use asking::ask;
+use frame::frame_length;
 use parties::bank_slot;
 use parties::find_parties;
 use payment::decide;
@@ -12,11 +13,9 @@ use shares::bank_out;
 use shares::own_in;
 use shares::own_out;
 use table::Table;
+use text::REPORT_ROOM;
 use text::next_end;
 use transfer::transfer_at;
-
-// The bytes lent to a line for its report: as many as the longest has.
-const REPORT_ROOM: usize = 913;
 
 // The record afterwards beside the lent book, how many bytes of the text were played, and how many were written.
 pub struct Ran {
@@ -26,8 +25,8 @@ pub struct Ran {
     pub written: usize,
 }
 
-// Plays the whole lines of `lines` in order, as long as `out` has room for the longest answer line. A frame of 22 bytes is a payment's: it is booked here, on
-// the table that the loop owns, as `pay` books it, so that no table is copied.
+// Plays the whole lines of `lines` in order, as long as `out` has room for the longest answer line. A payment is booked here, on the table that
+// the loop owns, as `pay` books it, so that no table is copied. Where n is 0, byte 0 is an earlier frame's.
 pub fn run(
     mut t: Table,
     ids: &mut [u8; 32768],
@@ -46,10 +45,11 @@ pub fn run(
     let mut written: usize = 0;
     let mut end = next_end(lines, read, out.len());
     while end < lines.len() {
-        let n = unpack(&lines[read..end], &mut frame, &values);
+        let m = unpack(&lines[read..end], &mut frame, &values);
+        let n = frame_length(&frame[..m]);
         let mut answer: u64 = 0;
         let mut length: usize = 0;
-        if n == 22 {
+        if (n != 0) & (frame[0] == 6) {
             let p = transfer_at(&frame[..n]);
             let found = find_parties(&t.codes, t.count, p);
             let i = found.payer;
@@ -66,7 +66,7 @@ pub fn run(
                 t.accounts[j] = own_in(t.accounts[j], p);
             }
         } else if (n != 0) & (frame[0] == 9) {
-            // A query leaves the table as it is. Where n is 0, byte 0 is an earlier frame's.
+            // A query leaves the table as it is.
             let q = ask(t, ids, days, used, &frame[..n], &mut report);
             used = q.used;
             answer = q.answer;

@@ -1,7 +1,7 @@
 -- The lines of a text and the printed form of an answer (paper 01, "Frames"). Assumes nothing.
 use mathlib.Core.Bool.{cond}
 use mathlib.Core.List.{List, [], _∷_, _++_}
-use Prim.Native.Nat.{ℕ, suc, _+_, _/_, _%_}
+use Prim.Native.Nat.{ℕ, suc, _+_, _*_, _/_, _%_}
 use lib.Dec.{leb, eqb}
 use lib.ListN.{length, drop}
 use Rattle.frame.specs.Hex.{hex}
@@ -26,13 +26,13 @@ unfoldable pub joined : List (List ℕ) → List ℕ
 joined [] = []
 joined (l ∷ ls) = (l ++ (10 ∷ [])) ++ joined ls
 
--- the bytes lent to a line for its report: as many as the longest has
+-- the bytes lent to a line for its report
 abbrev pub reportRoom : ℕ
-reportRoom = 913
+reportRoom = 8192
 
--- the bytes of the longest answer line: 2 digits, 2 for each byte of the report, the end
+-- the bytes of the longest answer line that may come of it: 2 digits, 2 for each byte of the report, the end
 abbrev pub answerRoom : ℕ
-answerRoom = 1829
+answerRoom = 2 * reportRoom + 3
 
 -- where the line that begins at the place `from` ends, if it has its end and there is room for the longest answer line. Else the text's length
 unfoldable pub nextEnd : List ℕ → ℕ → ℕ → ℕ

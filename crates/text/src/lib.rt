@@ -52,8 +52,11 @@ fn line_end(s: &[u8], from: usize) -> usize
     i
 }
 
-// The bytes of the longest answer line.
-const ANSWER_ROOM: usize = 1829;
+// The bytes lent to a line for its report.
+pub const REPORT_ROOM: usize = 8192;
+
+// The bytes of the longest answer line that may come of it.
+const ANSWER_ROOM: usize = 2 * REPORT_ROOM + 3;
 
 // The end of the line that begins at `from`, or the text's length where no whole line or no room is left.
 pub fn next_end(lines: &[u8], from: usize, room: usize) -> usize

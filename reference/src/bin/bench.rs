@@ -1,22 +1,22 @@
-//! Measures a program under test beside the reference on two workloads.
+//! Measures a program beside others on two workloads: the time on the processor, since the clock tells little on a machine that is shared.
 
 use std::env;
 use std::fs::{self, File};
-use std::io::{self, Read};
+use std::io;
 use std::path::{Path, PathBuf};
 use std::process::{self, Command, ExitCode, Stdio};
-use std::time::{Duration, Instant};
+use std::thread;
+use std::time::Duration;
 
 use reference::generate::{generate, Workload};
 
 const SEED: u64 = 1;
-const USAGE: &str = "usage: bench PROGRAM [REFERENCE [LINES [ROUNDS]]]";
+const USAGE: &str = "usage: bench LINES ROUNDS PROGRAM OTHER..";
 
 struct Arguments {
-    program: PathBuf,
-    reference: PathBuf,
     lines: usize,
     rounds: usize,
+    programs: Vec<PathBuf>,
 }
 
 fn main() -> ExitCode {
@@ -35,22 +35,17 @@ fn main() -> ExitCode {
 }
 
 fn read(arguments: &[String]) -> Option<Arguments> {
-    if arguments.len() > 4 {
+    let [lines, rounds, programs @ ..] = arguments else {
+        return None;
+    };
+    let number = |text: &String| text.parse().ok().filter(|&number| number > 0);
+    if programs.len() < 2 {
         return None;
     }
-    let reference = match arguments.get(1) {
-        Some(path) => PathBuf::from(path),
-        None => env::current_exe().ok()?.with_file_name("reference"),
-    };
-    let number = |place: usize, usual: usize| match arguments.get(place) {
-        Some(text) => text.parse().ok().filter(|&number| number > 0),
-        None => Some(usual),
-    };
     Some(Arguments {
-        program: PathBuf::from(arguments.first()?),
-        reference,
-        lines: number(2, 400_000)?,
-        rounds: number(3, 5)?,
+        lines: number(lines)?,
+        rounds: number(rounds)?,
+        programs: programs.iter().map(PathBuf::from).collect(),
     })
 }
 
@@ -60,99 +55,64 @@ fn run(arguments: &Arguments) -> io::Result<()> {
         fs::write(&file, generate(SEED, arguments.lines, workload))?;
         let measured = measure(arguments, &file);
         fs::remove_file(&file)?;
-        let [program, reference] = measured?;
-        println!(
-            "{name}: {} lines, least of {} rounds",
-            arguments.lines, arguments.rounds
-        );
-        program.print("program", arguments.lines);
-        reference.print("reference", arguments.lines);
-        let wall = ratio(program.wall, reference.wall);
-        println!("  ratio (program / reference): {wall:.3}");
-        if let (Some(program), Some(reference)) = (program.processor, reference.processor) {
-            let processor = ratio(program, reference);
-            println!("  ratio of processor time:     {processor:.3}");
-        }
+        print(name, arguments, &measured?);
     }
     Ok(())
 }
 
-fn ratio(program: Duration, reference: Duration) -> f64 {
-    program.as_secs_f64() / reference.as_secs_f64()
-}
-
-/// What a run takes on the clock and, where the system tells, on the processor.
-/// On a busy machine the processor's time is the steadier one.
-#[derive(Clone, Copy)]
-struct Times {
-    wall: Duration,
-    processor: Option<Duration>,
-}
-
-impl Times {
-    fn least(self, other: Times) -> Times {
-        Times {
-            wall: self.wall.min(other.wall),
-            processor: self.processor.into_iter().chain(other.processor).min(),
-        }
-    }
-
-    fn print(self, name: &str, lines: usize) {
-        print_time(name, "wall", self.wall, lines);
-        if let Some(processor) = self.processor {
-            print_time(name, "processor", processor, lines);
-        }
+fn print(name: &str, arguments: &Arguments, least: &[Duration]) {
+    let (lines, rounds) = (arguments.lines, arguments.rounds);
+    println!("{name}: {lines} lines, processor time, least of {rounds} rounds");
+    for (program, &time) in arguments.programs.iter().zip(least) {
+        let milliseconds = 1e3 * time.as_secs_f64();
+        let per_line = 1e9 * time.as_secs_f64() / lines as f64;
+        let ratio = least[0].as_secs_f64() / time.as_secs_f64();
+        let program = program.display();
+        println!(
+            "  {milliseconds:8.2} ms  {per_line:6.1} ns a line  first / this {ratio:.3}  {program}"
+        );
     }
 }
 
-/// The least times of each program, run alternately.
-fn measure(arguments: &Arguments, input: &Path) -> io::Result<[Times; 2]> {
-    let unknown = Times {
-        wall: Duration::MAX,
-        processor: None,
-    };
-    let mut least = [unknown; 2];
+/// The least time of each program, run in turn.
+fn measure(arguments: &Arguments, input: &Path) -> io::Result<Vec<Duration>> {
+    let mut least = vec![Duration::MAX; arguments.programs.len()];
     for _ in 0..arguments.rounds {
-        let programs = [&arguments.program, &arguments.reference];
-        for (least, program) in least.iter_mut().zip(programs) {
-            *least = time(program, input)?.least(*least);
+        for (least, program) in least.iter_mut().zip(&arguments.programs) {
+            *least = time(program, input)?.min(*least);
         }
     }
     Ok(least)
 }
 
-/// The times of one run, from the file to nowhere.
-fn time(program: &Path, input: &Path) -> io::Result<Times> {
+/// The time on the processor, user and system, of one run from the file to nowhere.
+fn time(program: &Path, input: &Path) -> io::Result<Duration> {
     let mut command = Command::new(program);
     command.stdin(File::open(input)?).stdout(Stdio::null());
-    // The end of the error output tells that the program has ended.
-    command.stderr(Stdio::piped());
-    let begin = Instant::now();
     let mut child = command.spawn()?;
-    let mut errors = Vec::new();
-    if let Some(mut output) = child.stderr.take() {
-        output.read_to_end(&mut errors)?;
-    }
-    let wall = begin.elapsed();
-    let processor = processor_time(child.id());
+    let time = time_of(child.id());
     let status = child.wait()?;
-    if status.success() {
-        Ok(Times { wall, processor })
-    } else {
+    if !status.success() {
         let text = format!("{} ended with {status}", program.display());
-        Err(io::Error::other(text))
+        return Err(io::Error::other(text));
     }
+    time
 }
 
-/// Time on the processor of a program not waited for yet, as Linux keeps it.
-fn processor_time(id: u32) -> Option<Duration> {
-    let text = fs::read_to_string(format!("/proc/{id}/schedstat")).ok()?;
-    let nanoseconds = text.split_whitespace().next()?.parse().ok()?;
-    (nanoseconds > 0).then(|| Duration::from_nanos(nanoseconds))
+/// As Linux keeps it of a program that has ended and is not waited for yet: before its end the count lags behind.
+fn time_of(id: u32) -> io::Result<Duration> {
+    while !has_ended(&fs::read_to_string(format!("/proc/{id}/stat"))?) {
+        thread::sleep(Duration::from_millis(1));
+    }
+    let text = fs::read_to_string(format!("/proc/{id}/schedstat"))?;
+    let nanoseconds = text.split_whitespace().next().and_then(|n| n.parse().ok());
+    nanoseconds
+        .map(Duration::from_nanos)
+        .ok_or_else(|| io::Error::other("no time on the processor is told here"))
 }
 
-fn print_time(name: &str, clock: &str, time: Duration, lines: usize) {
-    let milliseconds = 1_000.0 * time.as_secs_f64();
-    let per_line = 1e9 * time.as_secs_f64() / lines as f64;
-    println!("  {name:9} {clock:9} {milliseconds:9.2} ms  {per_line:7.1} ns per line");
+/// The state stands behind the name, which is in brackets.
+fn has_ended(stat: &str) -> bool {
+    stat.rsplit_once(')')
+        .is_some_and(|(_, rest)| rest.trim_start().starts_with('Z'))
 }

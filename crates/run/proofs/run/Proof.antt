@@ -5,13 +5,14 @@ use Prim.Native.Nat.{_-_}
 use native.Mathlib.Omega.{arith}
 use borrow.Author.Needs.{needs}
 use lib.ListN.{length}
+use lib.Seq.{length-take-le}
 use Rattle.table.proofs.Places.{length-mapped}
 use Rattle.payment.proofs.Parties.{all-sized}
 use Rattle.payment.proofs.Calls.{out-room, own-out-room, in-room, own-in-room}
 use Rattle.text.proofs.Next.{next-is}
 use Rattle.run.proofs.Laws.{small, same-report, begin, turn, all-chosen}
-use Rattle.run.proofs.Turns.{frame-long, frame-formed, query-formed}
-use Rattle.run.proofs.run.Proof.Loop.{Inv-loop, μ-loop, ahead, roomy, at, line, within, table, sound, good, long, front, sought, sides, accepted, last, last2, last3, last4, went}
+use Rattle.run.proofs.Turns.{frame-long, kind-formed}
+use Rattle.run.proofs.run.Proof.Loop.{Inv-loop, μ-loop, ahead, roomy, at, line, bytes, here, within, table, sound, good, long, front, sought, sides, accepted, last, last2, last3, last4, went}
 use Rattle.run.proofs.run.Statement.{statement}
 use Rattle.run.proofs.run.Tie as tie
 
@@ -52,13 +53,25 @@ unpack-requires : tie.Need-unpack-requires Inv-loop μ-loop
 unpack-requires c κs = (omega (arith, c .before .before .before .before .loop .inv .4), c .before .before .before .before .before .before .digit-values .ensures)
 
 array-share-prefix-frame : tie.Need-array-share-prefix-frame Inv-loop μ-loop
-array-share-prefix-frame c = within (c .before)
+array-share-prefix-frame c = bytes (c .before)
+
+slice-aggregate-frame-length : tie.Need-slice-aggregate-frame-length Inv-loop μ-loop
+slice-aggregate-frame-length c = sym (length-take-le _ _ (bytes (c .before .before)))
+
+frame-length-requires : tie.Need-frame-length-requires Inv-loop μ-loop
+frame-length-requires c κs = search needs
+
+array-read-if1 : tie.Need-array-read-if1 Inv-loop μ-loop
+array-read-if1 c = omega arith
+
+array-share-prefix-frame-2 : tie.Need-array-share-prefix-frame-2 Inv-loop μ-loop
+array-share-prefix-frame-2 c = within (c .before)
 
 slice-aggregate-transfer-at : tie.Need-slice-aggregate-transfer-at Inv-loop μ-loop
-slice-aggregate-transfer-at c = let f = c .before .before in sym (frame-long (line f) _ _ _ (f .before .unpack .ensures))
+slice-aggregate-transfer-at c = let f = c .before .before in sym (frame-long (line f) _ _ (here f))
 
 transfer-at-requires : tie.Need-transfer-at-requires Inv-loop μ-loop
-transfer-at-requires c κs = let f = c .before .before in frame-formed (line f) _ _ _ (f .before .unpack .ensures) (c .before .if1 .taken)
+transfer-at-requires c κs = let f = c .before .before in kind-formed (line f) _ _ (here f) 6 (c .before .if1 .taken)
 
 find-parties-requires : tie.Need-find-parties-requires Inv-loop μ-loop
 find-parties-requires c κs = let f = c .before .before .before .before .before in (sound f .within, at f .before .loop .inv .5 .codes-long)
@@ -151,8 +164,8 @@ own-in-requires : tie.Need-own-in-requires Inv-loop μ-loop
 own-in-requires c κs = let x3 = c .before in let x2 = last3 x3 in let x1 = last2 x2 in let a = accepted (last x1) in
     (a .in-range, own-in-room a (x1 .bank-out .result) (x1 .bank-out .ensures) (x2 .own-out .result) (x2 .own-out .ensures) (x3 .bank-in .result) (x3 .bank-in .ensures))
 
-mul-t57 : tie.Need-mul-t57 Inv-loop μ-loop
-mul-t57 c = omega (arith, sought (sides (last (last2 (last3 (last4 c))))))
+mul-t65 : tie.Need-mul-t65 Inv-loop μ-loop
+mul-t65 c = omega (arith, sought (sides (last (last2 (last3 (last4 c))))))
 
 element-set-from-t-4 : tie.Need-element-set-from-t-4 Inv-loop μ-loop
 element-set-from-t-4 c = omega (arith, sought (sides (last (last2 (last3 (last4 c))))))
@@ -160,24 +173,24 @@ element-set-from-t-4 c = omega (arith, sought (sides (last (last2 (last3 (last4 
 array-read-if3 : tie.Need-array-read-if3 Inv-loop μ-loop
 array-read-if3 c = omega arith
 
-array-share-prefix-frame-2 : tie.Need-array-share-prefix-frame-2 Inv-loop μ-loop
-array-share-prefix-frame-2 c = within (c .before .before .before .before)
+array-share-prefix-frame-3 : tie.Need-array-share-prefix-frame-3 Inv-loop μ-loop
+array-share-prefix-frame-3 c = within (c .before .before .before .before)
 
 slice-aggregate-ask : tie.Need-slice-aggregate-ask Inv-loop μ-loop
-slice-aggregate-ask c = let f = c .before .before .before .before .before in sym (frame-long (line f) _ _ _ (f .before .unpack .ensures))
+slice-aggregate-ask c = let f = c .before .before .before .before .before in sym (frame-long (line f) _ _ (here f))
 
 slice-aggregate-ask-2 : tie.Need-slice-aggregate-ask-2 Inv-loop μ-loop
 slice-aggregate-ask-2 c = sym (at (c .before .before .before .before .before .before) .before .loop .inv .3)
 
 ask-requires : tie.Need-ask-requires Inv-loop μ-loop
 ask-requires c κs = let b = c .before .before .before .before in let f = b .before .before in
-    let q = query-formed (line f) _ _ _ (f .before .unpack .ensures) (b .if3 .taken) in (q .0, q .1, sound f)
+    let q = kind-formed (line f) _ _ (here f) 9 (b .if3 .taken) in (q .0, q .1, sound f)
 
-array-share-prefix-frame-3 : tie.Need-array-share-prefix-frame-3 Inv-loop μ-loop
-array-share-prefix-frame-3 c = within (c .before .before .before .before)
+array-share-prefix-frame-4 : tie.Need-array-share-prefix-frame-4 Inv-loop μ-loop
+array-share-prefix-frame-4 c = within (c .before .before .before .before)
 
 slice-aggregate-step : tie.Need-slice-aggregate-step Inv-loop μ-loop
-slice-aggregate-step c = let f = c .before .before .before .before .before in sym (frame-long (line f) _ _ _ (f .before .unpack .ensures))
+slice-aggregate-step c = let f = c .before .before .before .before .before in sym (frame-long (line f) _ _ (here f))
 
 slice-aggregate-step-2 : tie.Need-slice-aggregate-step-2 Inv-loop μ-loop
 slice-aggregate-step-2 c = sym (at (c .before .before .before .before .before .before) .before .loop .inv .3)
@@ -222,7 +235,7 @@ loop-again c =
       rw same at (next-is _ _ _ _ (omega (arith, v .loop-test .taken)) (c .next-end2 .ensures)),
       same,
       same-report _ _ _ _ _ _ _ _ _ _ (went g .played) ∙ v .before .loop .inv .3,
-      g .before .before .unpack .kept .1 .0 ∙ v .before .loop .inv .4,
+      g .before .before .before .before .unpack .kept .1 .0 ∙ v .before .loop .inv .4,
       went g .long,
     )
 
@@ -254,6 +267,10 @@ run-spec =
     slice-aggregate-unpack-2
     unpack-requires
     array-share-prefix-frame
+    slice-aggregate-frame-length
+    frame-length-requires
+    array-read-if1
+    array-share-prefix-frame-2
     slice-aggregate-transfer-at
     transfer-at-requires
     find-parties-requires
@@ -286,14 +303,14 @@ run-spec =
     mul-own-in
     element-copy-out-own-in
     own-in-requires
-    mul-t57
+    mul-t65
     element-set-from-t-4
     array-read-if3
-    array-share-prefix-frame-2
+    array-share-prefix-frame-3
     slice-aggregate-ask
     slice-aggregate-ask-2
     ask-requires
-    array-share-prefix-frame-3
+    array-share-prefix-frame-4
     slice-aggregate-step
     slice-aggregate-step-2
     step-requires

@@ -1,20 +1,25 @@
-use borrow.Author.Needs.{needs}
+use mathlib.Core.Path.{_≡_}
+use native.Mathlib.Omega.{arith}
+use lib.ListN.{length}
 use Rattle.amount.proofs.Integer.{back}
-use Rattle.transfer.proofs.Held.{payment-held}
+use Rattle.transfer.proofs.Held.{payment-long, payment-held}
 use Rattle.transfer.proofs.transfer_at.Statement.{statement}
 use Rattle.transfer.proofs.transfer_at.Tie as tie
 
+long : (s : tie.Start) → length (s .args .b .now) ≡ 22
+long s = payment-long (s .args .b .now) (s .pre .0) (s .pre .1)
+
 shared-slice-read-t3 : tie.Need-shared-slice-read-t3
-shared-slice-read-t3 c = search needs
+shared-slice-read-t3 c = omega (arith, long (c .before .before))
 
 code-at-requires : tie.Need-code-at-requires
-code-at-requires c κs = search needs
+code-at-requires c κs = omega (arith, long (c .before .before))
 
 code-at-requires-2 : tie.Need-code-at-requires-2
-code-at-requires-2 c κs = search needs
+code-at-requires-2 c κs = omega (arith, long (c .before .before .before))
 
 i64-at-requires : tie.Need-i64-at-requires
-i64-at-requires c κs = search needs
+i64-at-requires c κs = omega (arith, long (c .before .before .before .before))
 
 returns : tie.Need-returns
 returns c =

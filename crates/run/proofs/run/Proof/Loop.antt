@@ -7,7 +7,7 @@ use Prim.Native.Nat.{ℕ, _≤_, _+_, _-_}
 use native.Mathlib.Omega.{arith}
 use borrow.Author.Needs.{needs}
 use lib.ListN.{length, take, drop, length-set}
-use Rattle.frame.specs.Frame.{lineFrame}
+use Rattle.reader.proofs.Reader.{FrameAt, bytes-within, frame-at, frame-within}
 use Rattle.table.specs.declared.Table.{Table}
 use Rattle.table.specs.Promise.{Good}
 use Rattle.table.proofs.Places.{length-mapped}
@@ -21,7 +21,7 @@ use Rattle.promise.proofs.Laws.{good-table}
 use Rattle.text.proofs.Next.{NextIs}
 use Rattle.run.specs.Run.{Passed}
 use Rattle.run.proofs.Laws.{forward, fits}
-use Rattle.run.proofs.Turns.{frame-within, Long, Turned, turned, paid}
+use Rattle.run.proofs.Turns.{Long, Turned, turned, paid}
 use Rattle.run.proofs.run.Tie as tie
 use Rattle.text.specs.Text.{answerRoom, reportRoom}
 
@@ -48,35 +48,38 @@ roomy c = omega (arith, fits _ _ _ _ _ _ _ _ _ _ _ (c .before .loop .inv .0) (c 
 
 -- ---- the line's frame
 
-abbrev pub at : tie.After-frame2 Inv-loop μ-loop → tie.In-loop Inv-loop μ-loop
-at f = f .before .before .before .before .before
+abbrev pub at : tie.After-frame-length Inv-loop μ-loop → tie.In-loop Inv-loop μ-loop
+at f = f .before .before .before .before .before .before .before
 
-abbrev pub line : tie.After-frame2 Inv-loop μ-loop → List ℕ
+abbrev pub line : tie.After-frame-length Inv-loop μ-loop → List ℕ
 line f = let v = at f .before .loop in take (v .end - v .read) (drop (v .read) (at f .before .before .before .before .before .before .args .lines .now))
 
-pub within : (f : tie.After-frame2 Inv-loop μ-loop) → f .before .unpack .result ≤ length (f .before .unpack .last .1 .0)
-within f = frame-within (line f) _ _ _ (f .before .unpack .ensures)
+pub bytes : (c : tie.After-unpack Inv-loop μ-loop) → c .unpack .result ≤ length (c .unpack .last .1 .0)
+bytes c = bytes-within _ _ _ _ (c .unpack .ensures)
 
-pub is : (f : tie.After-frame2 Inv-loop μ-loop) → take (f .before .unpack .result) (f .before .unpack .last .1 .0) ≡ lineFrame (line f)
-is f = f .before .unpack .ensures .frame-is
+pub here : (f : tie.After-frame-length Inv-loop μ-loop) → FrameAt (line f) (f .before .before .before .unpack .last .1 .0) (f .frame-length .result)
+here f = frame-at (line f) _ _ _ (f .before .before .before .unpack .ensures) _ (f .frame-length .ensures)
+
+pub within : (f : tie.After-frame-length Inv-loop μ-loop) → f .frame-length .result ≤ length (f .before .before .before .unpack .last .1 .0)
+within f = frame-within _ _ _ (here f)
 
 -- ---- the table before the turn
 
-abbrev pub table : tie.After-frame2 Inv-loop μ-loop → Table
+abbrev pub table : tie.After-frame-length Inv-loop μ-loop → Table
 table f = at f .before .loop .t
 
-pub sound : (f : tie.After-frame2 Inv-loop μ-loop) → let v = at f .before .loop in Sound (v .t) (v .ids) (v .days) (v .used)
+pub sound : (f : tie.After-frame-length Inv-loop μ-loop) → let v = at f .before .loop in Sound (v .t) (v .ids) (v .days) (v .used)
 sound f = at f .before .loop .inv .0 .sound
 
-pub good : (f : tie.After-frame2 Inv-loop μ-loop) → Good (table f)
+pub good : (f : tie.After-frame-length Inv-loop μ-loop) → Good (table f)
 good f = let v = at f .before .loop in good-table (v .t) (v .ids) (v .days) (v .used) (sound f)
 
-pub long : (f : tie.After-frame2 Inv-loop μ-loop) → length (table f .accounts) ≡ 64
+pub long : (f : tie.After-frame-length Inv-loop μ-loop) → length (table f .accounts) ≡ 64
 long f = at f .before .loop .inv .5 .accounts-long
 
 -- ---- a payment: its parties' places, and the four stores where it is accepted
 
-abbrev pub front : tie.After-bank-slot2 Inv-loop μ-loop → tie.After-frame2 Inv-loop μ-loop
+abbrev pub front : tie.After-bank-slot2 Inv-loop μ-loop → tie.After-frame-length Inv-loop μ-loop
 front c = c .before .before .before .before .before .before .before .before .before .before .before .before .before .before
 
 abbrev pub order : tie.After-bank-slot2 Inv-loop μ-loop → Transfer
@@ -122,17 +125,17 @@ went c =
     let q : Sought (v .t) (w .2 .result) (w .5 .result) (w .10 .result) (w .13 .result) = record { found = w .5 .ensures; payer-bank = w .10 .ensures; payee-bank = w .13 .ensures } in
     let a = taken (v .t) (good f) (long f) q (w .16 .result) (w .16 .ensures) (w .17 .taken) in
     turned (line f) (v .t) (v .ids) (v .days) (v .used) (v .report)
-    (paid (line f) (v .t) (v .ids) (v .days) (v .used) (v .report) (sound f) (w .2 .result) (rw (is f) at (w .2 .ensures)) _ (booked a (w .19 .result) (w .19 .ensures) (w .21 .result) (w .21 .ensures) (w .23 .result) (w .23 .ensures) (w .25 .result) (w .25 .ensures)))
+    (paid (line f) (v .t) (v .ids) (v .days) (v .used) (v .report) (sound f) (w .2 .result) (rw (here f .frame-is) at (w .2 .ensures)) _ (booked a (w .19 .result) (w .19 .ensures) (w .21 .result) (w .21 .ensures) (w .23 .result) (w .23 .ensures) (w .25 .result) (w .25 .ensures)))
     (record { codes-long = v .inv .5 .codes-long; accounts-long = simp length-set (long f) }) _ _ _ _ _ _ _ (w .26) (w .27) (w .28) (w .29) (w .30) (w .31 ∙ w .17 .taken) (w .32))
     (⊎-elim
     (λ w.
     let q : Sought (v .t) (w .2 .result) (w .5 .result) (w .10 .result) (w .13 .result) = record { found = w .5 .ensures; payer-bank = w .10 .ensures; payee-bank = w .13 .ensures } in
     turned (line f) (v .t) (v .ids) (v .days) (v .used) (v .report)
-    (paid (line f) (v .t) (v .ids) (v .days) (v .used) (v .report) (sound f) (w .2 .result) (rw (is f) at (w .2 .ensures)) _ (refused (v .t) (good f) (long f) q (w .16 .result) (w .16 .ensures) (w .17 .left)))
+    (paid (line f) (v .t) (v .ids) (v .days) (v .used) (v .report) (sound f) (w .2 .result) (rw (here f .frame-is) at (w .2 .ensures)) _ (refused (v .t) (good f) (long f) q (w .16 .result) (w .16 .ensures) (w .17 .left)))
     (v .inv .5) _ _ _ _ _ _ _ (w .18) (w .19) (w .20) (w .21) (w .22) (w .23) (w .24))
     (⊎-elim
-    (λ w. turned (line f) (v .t) (v .ids) (v .days) (v .used) (v .report) (rw (is f) at (w .6 .ensures)) (v .inv .5) _ _ _ _ _ _ _ (w .8) (w .9) (w .10) (w .11) (w .12) (w .13) (w .14))
+    (λ w. turned (line f) (v .t) (v .ids) (v .days) (v .used) (v .report) (rw (here f .frame-is) at (w .6 .ensures)) (v .inv .5) _ _ _ _ _ _ _ (w .8) (w .9) (w .10) (w .11) (w .12) (w .13) (w .14))
     (λ w.
-    turned (line f) (v .t) (v .ids) (v .days) (v .used) (v .report) (rw (is f) at (w .6 .ensures))
+    turned (line f) (v .t) (v .ids) (v .days) (v .used) (v .report) (rw (here f .frame-is) at (w .6 .ensures))
     (record { codes-long = search (needs, w .6 .ok .1 .1 .1 .0 .1 .1 .0 .1); accounts-long = search (needs, length-mapped, w .6 .ok .1 .1 .1 .0 .1 .1 .1 .0 .1) }) _ _ _ _ _ _ _ (w .9) (w .10) (w .11) (w .12) (w .13) (w .14) (w .15))))
     (c .if1 .came)
