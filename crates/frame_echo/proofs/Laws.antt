@@ -1,13 +1,13 @@
 -- Laws of lines that are echoed. Assumes nothing.
 use mathlib.Core.Path.{_≡_, refl, sym, ap, _∙_}
 use mathlib.Core.Bool.{Bool, true, false, cond, _&&_}
-use mathlib.Core.List.{List, [], _∷_, _++_, append-assoc, append-nil}
-use Prim.Native.Nat.{ℕ, _+_, _*_, _/_, _%_, _<_, _≤_}
+use mathlib.Core.List.{List, [], _∷_}
+use Prim.Native.Nat.{ℕ, _+_, _*_, _%_, _≤_}
 use native.Mathlib.Omega.{arith}
 use lib.ListN.{length, take, drop, set, length-append}
 use lib.Seq.{take-at}
 use lib.Dec.{eqb, leb}
-use borrow.Author.Tests.{eqb-true}
+use borrow.Author.Tests.{eqb-true, le-leb}
 use Rattle.octets.specs.Octets.{write}
 use Rattle.octets.proofs.Numbers.{both}
 use Rattle.octets.proofs.Places.{write-then}
@@ -22,6 +22,7 @@ use Rattle.reader.proofs.Reader.{unhex-length}
 use Rattle.hex_writer.proofs.Laws.{hex-length}
 use Rattle.command.specs.declared.Order.{Order}
 use Rattle.command.specs.View.{ordered}
+use Rattle.command.proofs.ByKind.{frame-some}
 use Rattle.frame_echo.specs.Printed.{isLine, echoed}
 
 -- ---- a line that is a frame, and one that is none
@@ -33,11 +34,12 @@ by-line : (line : List ℕ) (P : List ℕ → List ℕ → Type 0)
 unfolding lineFrame isLine
 by-line line P f g = go ((eqb (length line % 2) 0 && allHex line) && isFrame (unhex line)) refl
   where
-    go : (t : Bool) → ((eqb (length line % 2) 0 && allHex line) && isFrame (unhex line)) ≡ t → P (cond t (unhex line) []) (cond t line [])
+    go : (t : Bool) → ((eqb (length line % 2) 0 && allHex line) && isFrame (unhex line)) ≡ t
+        → P (cond t (unhex line) []) (cond (leb 1 (length (cond t (unhex line) []))) line [])
     go true e =
         let p = both (eqb (length line % 2) 0 && allHex line) (isFrame (unhex line)) e in
         let q = both (eqb (length line % 2) 0) (allHex line) (p .0) in
-        f (eqb-true (length line % 2) 0 (q .0)) (q .1) (p .1)
+        rw (le-leb 1 (length (unhex line)) (frame-some (unhex line) (p .1))) (f (eqb-true (length line % 2) 0 (q .0)) (q .1) (p .1))
     go false e = g
 
 module _ (line : List ℕ) where

@@ -1,16 +1,17 @@
 -- What is printed of an input is the echo of each of its lines. Assumes nothing.
 use mathlib.Core.Path.{_≡_, refl, sym, ap, ap₂, _∙_}
-use mathlib.Core.Bool.{Bool, true, false, cond}
+use mathlib.Core.Bool.{Bool, true, false, cond, _&&_}
 use mathlib.Core.List.{List, [], _∷_, _++_, append-assoc, append-nil}
-use Prim.Native.Nat.{ℕ, _≤_}
+use Prim.Native.Nat.{ℕ, _≤_, _%_}
 use native.Mathlib.Omega.{arith}
 use native.Mathlib.Decide.{decLe}
 use lib.ListN.{length, take}
 use lib.Seq.{length-take-le, take-all, take-append-le}
 use lib.Dec.{eqb}
-use Rattle.frame.specs.Hex.{hex}
-use Rattle.frame.specs.Frame.{lineFrame}
-use Rattle.reader.proofs.Reader.{odd, long}
+use borrow.Author.Tests.{ne-eqb}
+use Rattle.frame.specs.Hex.{hex, allHex, unhex}
+use Rattle.frame.specs.Frame.{isFrame, lineFrame}
+use Rattle.reader.proofs.Reader.{long}
 use Rattle.text.specs.Text.{push, wholeLines}
 use Rattle.frame_echo.specs.Printed.{echoed, grown, begun, printed, last}
 use Rattle.frame_echo.specs.Lines.{echoes, LinesEchoed}
@@ -18,6 +19,10 @@ use Rattle.frame_echo.proofs.Laws.{frame-digits}
 use Rattle.frame_echo.proofs.Begun.{begun-then, printed-then, last-none}
 
 -- ---- a long line and what is kept of it are no frames
+
+odd : (line : List ℕ) → (length line % 2 ≡ 0 → ⊥) → lineFrame line ≡ []
+unfolding lineFrame
+odd line h = ap (λ (t : Bool). cond ((t && allHex line) && isFrame (unhex line)) (unhex line) []) (ne-eqb (length line % 2) 0 h)
 
 none-echoed : (line : List ℕ) → lineFrame line ≡ [] → echoed line ≡ 10 ∷ []
 unfolding echoed hex

@@ -1,17 +1,16 @@
 -- What `frame_echo` prints. Assumes nothing.
 use mathlib.Core.Path.{_≡_}
-use mathlib.Core.Bool.{Bool, cond, _&&_}
+use mathlib.Core.Bool.{Bool, cond}
 use mathlib.Core.List.{List, [], _∷_, _++_}
-use Prim.Native.Nat.{ℕ, _+_, _%_}
-use lib.Dec.{eqb}
+use Prim.Native.Nat.{ℕ, _+_}
+use lib.Dec.{leb, eqb}
 use lib.ListN.{length, take}
 use Rattle.octets.specs.Octets.{write}
-use Rattle.frame.specs.Hex.{allHex, unhex}
-use Rattle.frame.specs.Frame.{isFrame}
+use Rattle.frame.specs.Frame.{lineFrame}
 
--- pairs of hexadecimal digits whose bytes are a frame
+-- a line that the reader takes: the frame that it gives is not nothing
 unfoldable pub isLine : List ℕ → Bool
-isLine line = (eqb (length line % 2) 0 && allHex line) && isFrame (unhex line)
+isLine line = leb 1 (length (lineFrame line))
 
 -- of a line: the line itself where it is a frame, else nothing; and its end
 unfoldable pub echoed : List ℕ → List ℕ

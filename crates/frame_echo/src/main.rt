@@ -2,7 +2,7 @@
 // empty line, which no frame is: so each line of the input has its own in the output, and every frame comes out as it went in.
 ghost use mathlib.Core.Path.{_≡_};
 ghost use mathlib.Core.List.{[], _∷_};
-ghost use Prim.Native.Nat.{_+_, _≤_, _<_};
+ghost use Prim.Native.Nat.{_+_, _≤_};
 ghost use lib.ListN.{length, take};
 ghost use Rattle.octets.specs.Octets.{write};
 ghost use Rattle.frame.specs.Frame.{readFrame};
