@@ -20,7 +20,7 @@ unfolding hex
 hex-snoc [] b = refl
 hex-snoc (a ∷ t) b = ap (λ (l : List ℕ). hexDigit (a / 16) ∷ hexDigit (a % 16) ∷ l) (hex-snoc t b)
 
-write-two : (l : List ℕ) (i j a b : ℕ) → j ≡ i + 1 → set (set l i a) j b ≡ write l i (a ∷ b ∷ [])
+pub write-two : (l : List ℕ) (i j a b : ℕ) → j ≡ i + 1 → set (set l i a) j b ≡ write l i (a ∷ b ∷ [])
 unfolding write
 write-two l i j a b e = rw (e, add-one i)
 

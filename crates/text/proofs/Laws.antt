@@ -7,12 +7,13 @@ use native.Mathlib.Numerals.{add-one}
 use native.Mathlib.Omega.{arith}
 use lib.Dec.{eqb}
 use lib.ListN.{length, take, drop, getD, set, length-append, length-drop}
-use lib.Seq.{drop-cons, take-suc, length-take-le, drop-drop, take-add}
+use lib.Seq.{drop-cons, length-take-le, drop-drop, take-add}
 use borrow.Author.Tests.{eq-eqb, ne-eqb, eqb-true}
 use Rattle.rules.specs.Command.{some?}
 use Rattle.octets.specs.Octets.{write}
 use Rattle.octets.proofs.Places.{write-then}
-use Rattle.frame.specs.Hex.{hexDigit, hex}
+use Rattle.frame.specs.Hex.{hex}
+use Rattle.hex_writer.proofs.Laws.{hex-length, write-two}
 use Rattle.text.specs.Text.{lineLength, push, wholeLines, joined, printed}
 
 -- ---- the next line
@@ -143,32 +144,11 @@ module _ (s : List ℕ) (from e : ℕ) (is : e ≡ from + lineLength (drop from 
 
 -- ---- the printed form
 
-pub hex-length : (l : List ℕ) → length (hex l) ≡ 2 * length l
-unfolding hex
-hex-length [] = refl
-hex-length (b ∷ t) = omega (arith, hex-length t)
-
-pub hex-snoc : (l : List ℕ) (b : ℕ) → hex (l ++ (b ∷ [])) ≡ hex l ++ (hexDigit (b / 16) ∷ hexDigit (b % 16) ∷ [])
-unfolding hex
-hex-snoc [] b = refl
-hex-snoc (a ∷ t) b = ap (λ (l : List ℕ). hexDigit (a / 16) ∷ hexDigit (a % 16) ∷ l) (hex-snoc t b)
-
 pub printed-length : (a : ℕ) (r : List ℕ) → length (printed a r) ≡ 2 * length r + 3
 unfolding printed
 printed-length a r = omega (arith, length-append (hex r) (10 ∷ []), hex-length r)
 
 -- ---- what is written
-
-write-two : (l : List ℕ) (i j a b : ℕ) → j ≡ i + 1 → set (set l i a) j b ≡ write l i (a ∷ b ∷ [])
-unfolding write
-write-two l i j a b e = rw (e, add-one i)
-
--- one byte of a report more
-pub hex-more : (o r out : List ℕ) (at i p d e : ℕ) → i < length r → p ≡ at + 2 * i → out ≡ write o at (hex (take i r))
-    → d ≡ hexDigit (getD r i 0 / 16) → e ≡ hexDigit (getD r i 0 % 16) → set (set out p d) (p + 1) e ≡ write o at (hex (take (i + 1) r))
-hex-more o r out at i p d e h q w x y =
-    let len : p ≡ at + length (hex (take i r)) = omega (arith, hex-length (take i r), length-take-le i r (omega arith)) in
-    rw (w, write-two (write o at (hex (take i r))) p (p + 1) d e refl, write-then o at (hex (take i r)) (d ∷ e ∷ []) p len, x, y, add-one, take-suc r i 0 h, hex-snoc)
 
 -- the two digits, the report and the end
 pub line-done : (o r out : List ℕ) (at a n p d e : ℕ) → n ≤ length r → p ≡ at + 2 + 2 * n → out ≡ write (set (set o at d) (at + 1) e) (at + 2) (hex (take n r))

@@ -5,8 +5,8 @@ ghost use lib.ListN.{length, drop, take};
 ghost use lib.Dec.{eqb};
 ghost use Rattle.rules.specs.Command.{some?};
 ghost use Rattle.octets.specs.Octets.{write};
-ghost use Rattle.frame.specs.Hex.{hexDigit, hex};
 ghost use Rattle.text.specs.Text.{lineLength, nextEnd, printed};
+use hex_writer::put_hex;
 
 // Whether a line end stands among 32 bytes. The pass has no way out, so that the compiler takes several bytes at a time.
 fn has_end(block: &[u8]) -> bool
@@ -69,33 +69,11 @@ pub fn next_end(lines: &[u8], from: usize, room: usize) -> usize
     line_end(lines, from)
 }
 
-fn hex_digit(n: u8) -> u8
-    requires { ⌜ n < 16 ⌝ }
-    ensures { λ r. ⌜ r ≡ hexDigit n ⌝ }
-{
-    if n < 10 { 48 + n } else { 87 + n }
-}
-
 fn decimal_digit(n: u64) -> u8
     requires { ⌜ n < 10 ⌝ }
     ensures { λ r. ⌜ r ≡ 48 + n ⌝ }
 {
     48 + n as u8
-}
-
-// The report's first n bytes, two digits to a byte, from `at` on.
-fn put_hex(out: &mut [u8], at: usize, report: &[u8], n: usize)
-    requires { ⌜ (at + 2 * n ≤ length (now out)) × (n ≤ length (now report)) ⌝ }
-    ensures { λ _. ⌜ now (out .exit) ≡ write (now (out .entry)) at (hex (take n (now (report .entry)))) ⌝ }
-{
-    let mut i: usize = 0;
-    while i < n {
-        let b = report[i];
-        let p = at + 2 * i;
-        out[p] = hex_digit(b / 16);
-        out[p + 1] = hex_digit(b % 16);
-        i += 1;
-    }
 }
 
 // Writes the answer line of the report's first n bytes from `at` on, and gives the place behind it.

@@ -27,7 +27,7 @@ use Rattle.text.specs.Text.{answerRoom, reportRoom}
 
 abbrev pub Inv-loop : tie.InvT-loop
 Inv-loop ids₀ days₀ used₀ lines out₀ t₀ values frame₀ report₀ read₀ written₀ end₀ ids days used out t frame report read written end =
-    (Passed (viewOf t₀ ids₀ days₀ used₀) lines out₀ t ids days used read written out)
+    (Passed (viewOf t₀ ids₀ days₀ used₀) ids₀ days₀ lines out₀ t ids days used read written out)
     × (NextIs lines read (length out₀ - written) end)
     × (length out ≡ length out₀)
     × (length report ≡ reportRoom)
