@@ -44,9 +44,9 @@ blocks-most s xs [] = omega arith
 blocks-most s xs (i ∷ is) =
     omega (arith, length-append (block s xs (named i)) (blocks s xs is), block-most s xs (named i), blocks-most s xs is)
 
--- 1 byte and 16 blocks are 913 bytes
-pub report-most : (s : ℕ) (xs : List Rule.Account) (a : List ℕ) (n : ℕ) → n ≤ 16 → length ((n ∷ []) ++ blocks s xs (idsFrom 0 n a)) ≤ 913
-report-most s xs a n h = omega (arith, blocks-most s xs (idsFrom 0 n a), ids-length a 0 n)
+-- the count, and 57 bytes a block at the most
+pub report-most : (s : ℕ) (xs : List Rule.Account) (a : List ℕ) (n : ℕ) → length ((n ∷ []) ++ blocks s xs (idsFrom 0 n a)) ≤ 1 + n * 57
+report-most s xs a n = omega (arith, blocks-most s xs (idsFrom 0 n a), ids-length a 0 n)
 
 -- ---- one after the other
 

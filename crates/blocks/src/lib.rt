@@ -2,7 +2,7 @@
 ghost use mathlib.Core.Path.{_≡_};
 ghost use mathlib.Core.Bool.{true, cond};
 ghost use mathlib.Core.List.{[], _∷_, _++_};
-ghost use Prim.Native.Nat.{_+_, _≤_};
+ghost use Prim.Native.Nat.{_+_, _*_, _≤_};
 ghost use lib.ListN.{length};
 ghost use Rattle.rules.specs.Report as Report;
 ghost use Rattle.account.specs.View.{toAccount};
@@ -38,7 +38,7 @@ fn put_block(out: &mut [u8], at: usize, x: Account, known: bool, may: bool) -> u
 
 // The count and the blocks of n account ids, from byte 0 on; the report's length.
 pub fn put_report(t: Table, sender: u32, accounts: [u8; 160], n: usize, out: &mut [u8]) -> usize
-    requires { ⌜ (Good t) × (n ≤ 16) × (913 ≤ length (now out)) ⌝ }
+    requires { ⌜ (Good t) × (n ≤ 16) × (1 + n * 57 ≤ length (now out)) ⌝ }
     ensures { λ r. ⌜ Written (now (out .entry)) 0 ((n ∷ []) ++ Report.blocks sender (accountsOf t) (idsFrom 0 n accounts)) (now (out .exit)) r ⌝ }
 {
     let count = t.count;

@@ -36,12 +36,15 @@ module _ (line bytes : List ℕ) (n : ℕ) (f : FrameAt line bytes n) where
   pub frame-long : length (take n bytes) ≡ n
   frame-long = length-take-le n bytes (frame-within line bytes n f)
 
-  -- of kind k
-  pub kind-formed : (k : ℕ) → (not (eqb n 0) && eqb (getD bytes 0 0) k) ≡ true → (isFrame (take n bytes) ≡ true) × (getD (take n bytes) 0 0 ≡ k)
-  kind-formed k e =
-      let h = both (not (eqb n 0)) (eqb (getD bytes 0 0) k) e in
+  -- of a kind that a test tells
+  pub kind-formed : (q : ℕ → Bool) → (not (eqb n 0) && q (getD bytes 0 0)) ≡ true → (isFrame (take n bytes) ≡ true) × (q (getD (take n bytes) 0 0) ≡ true)
+  kind-formed q e =
+      let h = both (not (eqb n 0)) (q (getD bytes 0 0)) e in
       let some : 0 < n = omega (arith, eqb-false n 0 (not-true (eqb n 0) (h .0))) in
-      (ap isFrame (f .frame-is) ∙ line-formed line (omega (arith, f .length-is, some)), getD-take n bytes 0 0 some ∙ eqb-true (getD bytes 0 0) k (h .1))
+      (ap isFrame (f .frame-is) ∙ line-formed line (omega (arith, f .length-is, some)), ap q (getD-take n bytes 0 0 some) ∙ h .1)
+
+  pub of-kind : (k : ℕ) → (not (eqb n 0) && eqb (getD bytes 0 0) k) ≡ true → (isFrame (take n bytes) ≡ true) × (getD (take n bytes) 0 0 ≡ k)
+  of-kind k e = let r = kind-formed (λ x. eqb x k) e in (r .0, eqb-true (getD (take n bytes) 0 0) k (r .1))
 
 -- ---- what a turn leaves behind
 

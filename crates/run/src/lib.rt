@@ -1,6 +1,7 @@
 // A chunk of lines, played: the book is lent, and payments are booked in place, so that the table is copied for other commands alone.
 ghost use Rattle.promise.specs.Promise.{Sound};
 ghost use Rattle.run.specs.Run.{RanIs};
+use asking::amend;
 use asking::ask;
 use frame::frame_length;
 use parties::bank_slot;
@@ -65,6 +66,11 @@ pub fn run(
                 t.accounts[l] = bank_in(t.accounts[l], p);
                 t.accounts[j] = own_in(t.accounts[j], p);
             }
+        } else if (n != 0) & ((frame[0] == 7) | (frame[0] == 8)) {
+            let m = amend(t, ids, days, used, &frame[..n]);
+            t = m.table;
+            used = m.used;
+            answer = m.answer;
         } else if (n != 0) & (frame[0] == 9) {
             // A query leaves the table as it is.
             let q = ask(t, ids, days, used, &frame[..n], &mut report);

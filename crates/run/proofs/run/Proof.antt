@@ -1,9 +1,11 @@
 mod Loop
 use mathlib.Core.Path.{_≡_, refl, sym, _∙_}
+use mathlib.Core.Bool.{_||_}
 use mathlib.Core.Logic.{⊎-elim, inl, inr}
 use Prim.Native.Nat.{_-_}
 use native.Mathlib.Omega.{arith}
 use borrow.Author.Needs.{needs}
+use lib.Dec.{eqb}
 use lib.ListN.{length}
 use lib.Seq.{length-take-le}
 use Rattle.table.proofs.Places.{length-mapped}
@@ -11,7 +13,7 @@ use Rattle.payment.proofs.Parties.{all-sized}
 use Rattle.payment.proofs.Calls.{out-room, own-out-room, in-room, own-in-room}
 use Rattle.text.proofs.Next.{next-is}
 use Rattle.run.proofs.Laws.{small, same-report, begin, turn, all-chosen}
-use Rattle.run.proofs.Turns.{frame-long, kind-formed}
+use Rattle.run.proofs.Turns.{frame-long, kind-formed, of-kind}
 use Rattle.run.proofs.run.Proof.Loop.{Inv-loop, μ-loop, ahead, roomy, at, line, bytes, here, within, table, sound, good, long, front, sought, sides, accepted, last, last2, last3, last4, went}
 use Rattle.run.proofs.run.Statement.{statement}
 use Rattle.run.proofs.run.Tie as tie
@@ -71,7 +73,7 @@ slice-aggregate-transfer-at : tie.Need-slice-aggregate-transfer-at Inv-loop μ-l
 slice-aggregate-transfer-at c = let f = c .before .before in sym (frame-long (line f) _ _ (here f))
 
 transfer-at-requires : tie.Need-transfer-at-requires Inv-loop μ-loop
-transfer-at-requires c κs = let f = c .before .before in kind-formed (line f) _ _ (here f) 6 (c .before .if1 .taken)
+transfer-at-requires c κs = let f = c .before .before in of-kind (line f) _ _ (here f) 6 (c .before .if1 .taken)
 
 find-parties-requires : tie.Need-find-parties-requires Inv-loop μ-loop
 find-parties-requires c κs = let f = c .before .before .before .before .before in (sound f .within, at f .before .loop .inv .5 .codes-long)
@@ -164,8 +166,8 @@ own-in-requires : tie.Need-own-in-requires Inv-loop μ-loop
 own-in-requires c κs = let x3 = c .before in let x2 = last3 x3 in let x1 = last2 x2 in let a = accepted (last x1) in
     (a .in-range, own-in-room a (x1 .bank-out .result) (x1 .bank-out .ensures) (x2 .own-out .result) (x2 .own-out .ensures) (x3 .bank-in .result) (x3 .bank-in .ensures))
 
-mul-t65 : tie.Need-mul-t65 Inv-loop μ-loop
-mul-t65 c = omega (arith, sought (sides (last (last2 (last3 (last4 c))))))
+mul-t66 : tie.Need-mul-t66 Inv-loop μ-loop
+mul-t66 c = omega (arith, sought (sides (last (last2 (last3 (last4 c))))))
 
 element-set-from-t-4 : tie.Need-element-set-from-t-4 Inv-loop μ-loop
 element-set-from-t-4 c = omega (arith, sought (sides (last (last2 (last3 (last4 c))))))
@@ -173,30 +175,46 @@ element-set-from-t-4 c = omega (arith, sought (sides (last (last2 (last3 (last4 
 array-read-if3 : tie.Need-array-read-if3 Inv-loop μ-loop
 array-read-if3 c = omega arith
 
+array-read-if3-2 : tie.Need-array-read-if3-2 Inv-loop μ-loop
+array-read-if3-2 c = omega arith
+
 array-share-prefix-frame-3 : tie.Need-array-share-prefix-frame-3 Inv-loop μ-loop
 array-share-prefix-frame-3 c = within (c .before .before .before .before)
 
-slice-aggregate-ask : tie.Need-slice-aggregate-ask Inv-loop μ-loop
-slice-aggregate-ask c = let f = c .before .before .before .before .before in sym (frame-long (line f) _ _ (here f))
+slice-aggregate-amend : tie.Need-slice-aggregate-amend Inv-loop μ-loop
+slice-aggregate-amend c = let f = c .before .before .before .before .before in sym (frame-long (line f) _ _ (here f))
 
-slice-aggregate-ask-2 : tie.Need-slice-aggregate-ask-2 Inv-loop μ-loop
-slice-aggregate-ask-2 c = sym (at (c .before .before .before .before .before .before) .before .loop .inv .3)
+amend-requires : tie.Need-amend-requires Inv-loop μ-loop
+amend-requires c κs = let b = c .before .before .before in let f = b .before .before in
+    let q = kind-formed (line f) _ _ (here f) (λ k. eqb k 7 || eqb k 8) (b .if3 .taken) in (q .0, q .1, sound f)
 
-ask-requires : tie.Need-ask-requires Inv-loop μ-loop
-ask-requires c κs = let b = c .before .before .before .before in let f = b .before .before in
-    let q = kind-formed (line f) _ _ (here f) 9 (b .if3 .taken) in (q .0, q .1, sound f)
+array-read-if4 : tie.Need-array-read-if4 Inv-loop μ-loop
+array-read-if4 c = omega arith
 
 array-share-prefix-frame-4 : tie.Need-array-share-prefix-frame-4 Inv-loop μ-loop
-array-share-prefix-frame-4 c = within (c .before .before .before .before)
+array-share-prefix-frame-4 c = within (c .before .before .before .before .before)
+
+slice-aggregate-ask : tie.Need-slice-aggregate-ask Inv-loop μ-loop
+slice-aggregate-ask c = let f = c .before .before .before .before .before .before in sym (frame-long (line f) _ _ (here f))
+
+slice-aggregate-ask-2 : tie.Need-slice-aggregate-ask-2 Inv-loop μ-loop
+slice-aggregate-ask-2 c = sym (at (c .before .before .before .before .before .before .before) .before .loop .inv .3)
+
+ask-requires : tie.Need-ask-requires Inv-loop μ-loop
+ask-requires c κs = let b = c .before .before .before .before in let f = b .before .before .before in
+    let q = of-kind (line f) _ _ (here f) 9 (b .if4 .taken) in (q .0, q .1, sound f)
+
+array-share-prefix-frame-5 : tie.Need-array-share-prefix-frame-5 Inv-loop μ-loop
+array-share-prefix-frame-5 c = within (c .before .before .before .before .before)
 
 slice-aggregate-step : tie.Need-slice-aggregate-step Inv-loop μ-loop
-slice-aggregate-step c = let f = c .before .before .before .before .before in sym (frame-long (line f) _ _ (here f))
+slice-aggregate-step c = let f = c .before .before .before .before .before .before in sym (frame-long (line f) _ _ (here f))
 
 slice-aggregate-step-2 : tie.Need-slice-aggregate-step-2 Inv-loop μ-loop
-slice-aggregate-step-2 c = sym (at (c .before .before .before .before .before .before) .before .loop .inv .3)
+slice-aggregate-step-2 c = sym (at (c .before .before .before .before .before .before .before) .before .loop .inv .3)
 
 step-requires : tie.Need-step-requires Inv-loop μ-loop
-step-requires c κs = sound (c .before .before .before .before .before .before)
+step-requires c κs = sound (c .before .before .before .before .before .before .before)
 
 slice-aggregate-write-line : tie.Need-slice-aggregate-write-line Inv-loop μ-loop
 slice-aggregate-write-line c = let g = c .before .before in sym (same-report _ _ _ _ _ _ _ _ _ _ (went g .played) ∙ at (g .before) .before .loop .inv .3)
@@ -303,14 +321,19 @@ run-spec =
     mul-own-in
     element-copy-out-own-in
     own-in-requires
-    mul-t65
+    mul-t66
     element-set-from-t-4
     array-read-if3
+    array-read-if3-2
     array-share-prefix-frame-3
+    slice-aggregate-amend
+    amend-requires
+    array-read-if4
+    array-share-prefix-frame-4
     slice-aggregate-ask
     slice-aggregate-ask-2
     ask-requires
-    array-share-prefix-frame-4
+    array-share-prefix-frame-5
     slice-aggregate-step
     slice-aggregate-step-2
     step-requires

@@ -113,7 +113,7 @@ last3 c = c .before .before
 abbrev pub last4 : tie.After-own-in Inv-loop μ-loop → tie.After-bank-in Inv-loop μ-loop
 last4 c = c .before .before
 
--- ---- what the turn left behind: of a payment accepted, of one refused, of a query, of any other frame or none
+-- ---- what the turn left behind: of a payment accepted, of one refused, of a change or a deletion, of a query, of any other frame or none
 
 pub went : (c : tie.Joined1 Inv-loop μ-loop) → let f = c .before in let v = at f .before .loop in
     Turned (line f) (v .t) (v .ids) (v .days) (v .used) (v .report) (c .if1 .t) (c .if1 .answer) (c .if1 .used) (c .if1 .length) (c .if1 .ids) (c .if1 .days) (c .if1 .report)
@@ -134,8 +134,12 @@ went c =
     (paid (line f) (v .t) (v .ids) (v .days) (v .used) (v .report) (sound f) (w .2 .result) (rw (here f .frame-is) at (w .2 .ensures)) _ (refused (v .t) (good f) (long f) q (w .16 .result) (w .16 .ensures) (w .17 .left)))
     (v .inv .5) _ _ _ _ _ _ _ (w .18) (w .19) (w .20) (w .21) (w .22) (w .23) (w .24))
     (⊎-elim
-    (λ w. turned (line f) (v .t) (v .ids) (v .days) (v .used) (v .report) (rw (here f .frame-is) at (w .6 .ensures)) (v .inv .5) _ _ _ _ _ _ _ (w .8) (w .9) (w .10) (w .11) (w .12) (w .13) (w .14))
     (λ w.
-    turned (line f) (v .t) (v .ids) (v .days) (v .used) (v .report) (rw (here f .frame-is) at (w .6 .ensures))
-    (record { codes-long = search (needs, w .6 .ok .1 .1 .1 .0 .1 .1 .0 .1); accounts-long = search (needs, length-mapped, w .6 .ok .1 .1 .1 .0 .1 .1 .1 .0 .1) }) _ _ _ _ _ _ _ (w .9) (w .10) (w .11) (w .12) (w .13) (w .14) (w .15))))
+    turned (line f) (v .t) (v .ids) (v .days) (v .used) (v .report) (rw (here f .frame-is) at (w .5 .ensures (v .report)))
+    (record { codes-long = search (needs, w .5 .ok .1 .1 .1 .0 .1 .1 .0 .1); accounts-long = search (needs, length-mapped, w .5 .ok .1 .1 .1 .0 .1 .1 .1 .0 .1) }) _ _ _ _ _ _ _ (w .7) (w .8) (w .9) (w .10) (w .11) (w .12) (w .13))
+    (⊎-elim
+    (λ w. turned (line f) (v .t) (v .ids) (v .days) (v .used) (v .report) (rw (here f .frame-is) at (w .7 .ensures)) (v .inv .5) _ _ _ _ _ _ _ (w .9) (w .10) (w .11) (w .12) (w .13) (w .14) (w .15))
+    (λ w.
+    turned (line f) (v .t) (v .ids) (v .days) (v .used) (v .report) (rw (here f .frame-is) at (w .7 .ensures))
+    (record { codes-long = search (needs, w .7 .ok .1 .1 .1 .0 .1 .1 .0 .1); accounts-long = search (needs, length-mapped, w .7 .ok .1 .1 .1 .0 .1 .1 .1 .0 .1) }) _ _ _ _ _ _ _ (w .10) (w .11) (w .12) (w .13) (w .14) (w .15) (w .16)))))
     (c .if1 .came)
