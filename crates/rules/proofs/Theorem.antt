@@ -16,7 +16,7 @@ use Rattle.rules.specs.Account.{Value, Turnovers, Account, balance, stat
 use Rattle.rules.specs.Command.{Header, Command, Bank, Branch, Funding, Withdrawal, BankLimits, Payment, Change, Deletion, Query, Opening, Call, every, some?, isCode, isMethod, isDay, isCount, isHeader, isItem, wellFormed}
 use Rattle.rules.specs.Demand.{broughtForward}
 use Rattle.rules.specs.History.{Event, Funds, Withdraws, Pays, Opens, Nothing, event, events, funds, withdraws, sumOf, paid, count, gets, gives, brought, taken, isOpening, dayOpened}
-use Rattle.rules.specs.Invariant.{All, Limited, Fit, Book, Invariant}
+use Rattle.rules.specs.Invariant.{All, Limited, Fit, Invariant}
 use Rattle.rules.specs.Machine.{Machine, empty, withAccounts, withId, hasBookPlace, checks, effect, firstFailure, answer, ifAccepted, next, outcome, run, outcomes}
 use Rattle.rules.specs.Message.{named, isMessageId, inBook, isBranchOf, limitChecks, touch, cleared, setItems}
 use Rattle.rules.specs.Payment.{isCredit, payer, payee, paymentChecks}

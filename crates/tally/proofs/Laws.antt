@@ -2,11 +2,11 @@
 use mathlib.Core.Path.{_≡_, refl, sym, ap, subst, _∙_}
 use mathlib.Core.Bool.{Bool, true, false, not, cond, false≢true}
 use mathlib.Core.Logic.{_⊎_, inl, inr}
-use mathlib.Core.List.{List, [], _∷_, _++_, append-assoc, append-nil}
-use Prim.Native.Nat.{ℕ, zero, suc, _+_, _*_, _-_, _≤_, _<_}
+use mathlib.Core.List.{List, [], _∷_, _++_, append-nil}
+use Prim.Native.Nat.{ℕ, zero, suc, _+_, _*_, _≤_, _<_}
 use native.Mathlib.Omega.{arith}
 use lib.Dec.{eqb}
-use lib.ListN.{length, take, drop, length-append, length-take, length-drop}
+use lib.ListN.{length, take, drop, length-take, length-drop}
 use lib.Seq.{take-add, take-at, drop-at, length-take-le}
 use borrow.Author.Tests.{eq-eqb, eqb-true}
 use Rattle.octets.specs.Octets.{write}
@@ -23,8 +23,8 @@ use Rattle.feed.specs.Reads as Fed
 use Rattle.feed.specs.Reads.{begun, Reads, start, next}
 use Rattle.feed.proofs.Theorem.{input-answered, same-end, none-left}
 use Rattle.tally.specs.declared.progress.Progress.{Progress}
-use Rattle.tally.specs.Progress.{started, written, broken, done, Closed, Ready, PlayedIs, Over}
-use Rattle.tally.specs.ReadOn.{ReadIs, Rests, took, ReadOnIs, stays, ends, reads, fails, none}
+use Rattle.tally.specs.Progress.{started, written, broken, Ready, PlayedIs, Over}
+use Rattle.tally.specs.ReadOn.{Rests, ReadOnIs, stays, ends, reads, fails, none}
 
 -- ---- the buffer
 
