@@ -1,22 +1,20 @@
-// Frames of limit messages, played past `step`, which would copy the table twice more. A query leaves it as it is, so it does not come back.
+// Frames of limit messages, played past `step`, so that the table does not come back: a query leaves it as it is, and of a change the items come back.
 ghost use mathlib.Core.Path.{_≡_};
-ghost use mathlib.Core.Bool.{true, _||_};
-ghost use mathlib.Core.List.{List};
-ghost use Prim.Native.Nat.{ℕ};
-ghost use lib.Dec.{eqb};
+ghost use mathlib.Core.Bool.{true};
 ghost use lib.ListN.{getD};
 ghost use Rattle.frame.specs.Frame.{isFrame, commandsOf};
 ghost use Rattle.promise.specs.Promise.{Sound, Played};
+ghost use Rattle.limit_change.specs.Plan.{Planned};
 use command::Command;
 use command::parse;
-use limit_change::change;
-use limit_deletion::deletion;
-use promise::Noted;
+use item_list::Item;
+use limit_change::Plan;
+use limit_change::judge;
 use query::Asked;
 use query::query;
 use table::Table;
 
-// As `step` plays it. Kind 09 is a query's and no other's, so the second arm is never taken.
+// A query, as `step` plays it. Kind 09 is a query's and no other's, so the second arm is never taken.
 pub fn ask(
     t: Table,
     ids: &mut [u8; 32768],
@@ -42,16 +40,16 @@ pub fn ask(
     }
 }
 
-// Kinds 07 and 08 have no report, so whatever buffer is lent stays as it is.
-pub fn amend(
+// A change is judged here, and the items are left to be set by whoever owns the table. Kind 07 is a change's and no other's.
+pub fn plan(
     t: Table,
     ids: &mut [u8; 32768],
     days: &mut [u32; 1024],
     used: usize,
     frame: &[u8],
-) -> Noted
-    requires { ⌜ (isFrame (now frame) ≡ true) × ((eqb (getD (now frame) 0 0) 7 || eqb (getD (now frame) 0 0) 8) ≡ true) × Sound t (now ids) (now days) used ⌝ }
-    ensures { λ r. ⌜ ((report : List ℕ) → Played (commandsOf (now (frame .entry))) t (now (ids .entry)) (now (days .entry)) used report (record { answer = r .answer; table = r .table; used = r .used; «report_len» = 0 }) (now (ids .exit)) (now (days .exit)) report) ⌝ }
+) -> Plan
+    requires { ⌜ (isFrame (now frame) ≡ true) × (getD (now frame) 0 0 ≡ 7) × Sound t (now ids) (now days) used ⌝ }
+    ensures { λ r. ⌜ Planned (commandsOf (now (frame .entry))) t (now (ids .entry)) (now (days .entry)) used r (now (ids .exit)) (now (days .exit)) ⌝ }
 {
     let order = parse(frame);
     let command = order.command;
@@ -60,12 +58,25 @@ pub fn amend(
     let types = order.types;
     let values = order.values;
     match command {
-        Command::Change(h, n) => change(t, ids, days, used, h, id, accounts, types, values, n),
-        Command::Deletion(h, kind) => deletion(t, ids, days, used, h, id, accounts, kind),
-        _ => Noted {
-            answer: 1,
-            table: t,
-            used: used,
-        },
+        Command::Change(h, n) => judge(t, ids, days, used, h, id, accounts, types, values, n),
+        _ => nothing_planned(used),
+    }
+}
+
+// Of no command.
+fn nothing_planned(used: usize) -> Plan {
+    let none = Item {
+        account: [0; 10],
+        kind: 0,
+        place: 0,
+        value: 0,
+    };
+    Plan {
+        answer: 1,
+        used: used,
+        count: 0,
+        day: 0,
+        second: 0,
+        items: [none; 16],
     }
 }

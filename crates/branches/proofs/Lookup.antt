@@ -1,12 +1,12 @@
 -- How marks come about account by account, and what a look-up among them finds. Assumes nothing.
 use mathlib.Core.Path.{_≡_, refl, sym, ap, ap₂, _∙_}
 use mathlib.Core.Bool.{Bool, true, false, not, cond, _&&_, _||_, or-false, or-assoc}
-use mathlib.Core.List.{List, [], _∷_, _++_, map}
+use mathlib.Core.List.{List, [], _∷_, _++_, map, append-nil}
 use Prim.Native.Nat.{ℕ, zero, suc, _+_, _-_, _≤_, _<_}
 use native.Mathlib.Omega.{arith}
 use native.Mathlib.Numerals.{add-one}
 use lib.Dec.{eqb}
-use lib.ListN.{length, take, drop, getD, set, replicate, take-append-drop}
+use lib.ListN.{length, take, getD, set, replicate}
 use lib.Seq.{take-suc, take-all, length-take-le}
 use Rattle.rules.specs.Account.{Moment, Account, blank, codes, among, known, at}
 use Rattle.rules.specs.Command.{some?}
@@ -88,22 +88,22 @@ module _ (f : Account → Bool) where
   some-all t g long i e = ap (some? f) (take-all i (accountsOf t) (omega (arith, accounts-length t (g .within) long)))
 
 module _ (t : Table) (g : Good t) (sender : ℕ) (m : Moment) (b : Branches) (k : Marked sender m t b) (c : ℕ) where
-  found : (f : Account → Bool) (d : Bool) → getD (marks f d (accountsOf t)) (placeOf c (b .codes)) d ≡ cond (known c (accountsOf t)) (f (at c (accountsOf t))) d
+  found : (f : Account → Bool) (d : Bool) → getD (marks f d (accountsOf t)) (placeOf c (take (t .count) (t .codes))) d ≡ cond (known c (accountsOf t)) (f (at c (accountsOf t))) d
   unfolding marks
   found f d =
-      ap (λ ks. getD (marks f d (accountsOf t)) (placeOf c ks) d) (k .codes-are ∙ sym (take-append-drop (t .count) (t .codes)) ∙ ap (λ ks. ks ++ drop (t .count) (t .codes)) (g .same))
-      ∙ looked f d c (64 - length (accountsOf t)) (accountsOf t) (drop (t .count) (t .codes))
+      ap (λ ks. getD (marks f d (accountsOf t)) (placeOf c ks) d) (g .same ∙ sym (append-nil (codes (accountsOf t))))
+      ∙ looked f d c (64 - length (accountsOf t)) (accountsOf t) []
 
-  pub owned-found : getD (b .owned) (placeOf c (b .codes)) false ≡ isBranchOf sender c (accountsOf t)
+  pub owned-found : getD (b .owned) (placeOf c (take (t .count) (t .codes))) false ≡ isBranchOf sender c (accountsOf t)
   unfolding isBranchOf
   owned-found =
-      ap (λ l. getD l (placeOf c (b .codes)) false) (k .owned-are)
+      ap (λ l. getD l (placeOf c (take (t .count) (t .codes))) false) (k .owned-are)
       ∙ found (isOwned sender) false
       ∙ (elim (known c (accountsOf t)) as (λ q. cond q (isOwned sender (at c (accountsOf t))) false ≡ (q && isOwned sender (at c (accountsOf t)))) [ true ↦ refl | false ↦ refl ])
 
-  pub later-found : getD (b .later) (placeOf c (b .codes)) true ≡ (not (isBranchOf sender c (accountsOf t)) || later ((at c (accountsOf t)) .moment) m)
+  pub later-found : getD (b .later) (placeOf c (take (t .count) (t .codes))) true ≡ (not (isBranchOf sender c (accountsOf t)) || later ((at c (accountsOf t)) .moment) m)
   unfolding isBranchOf
   later-found =
-      ap (λ l. getD l (placeOf c (b .codes)) true) (k .later-are)
+      ap (λ l. getD l (placeOf c (take (t .count) (t .codes))) true) (k .later-are)
       ∙ found (isTimely sender m) true
       ∙ (elim (known c (accountsOf t)) as (λ q. cond q (isTimely sender m (at c (accountsOf t))) true ≡ (not (q && isOwned sender (at c (accountsOf t))) || later ((at c (accountsOf t)) .moment) m)) [ true ↦ refl | false ↦ refl ])

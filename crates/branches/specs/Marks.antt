@@ -24,7 +24,6 @@ abbrev pub isTimely : ℕ → Moment → Account → Bool
 isTimely sender m x = not (isOwned sender x) || later (x .moment) m
 
 pub record Marked (sender : ℕ) (m : Moment) (t : Table) (b : Branches) : Type 0 where
-  pub codes-are : b .codes ≡ t .codes
   pub owned-are : b .owned ≡ marks (isOwned sender) false (accountsOf t)
   pub later-are : b .later ≡ marks (isTimely sender m) true (accountsOf t)
   pub any-is : b .any ≡ some? (isOwned sender) (accountsOf t)

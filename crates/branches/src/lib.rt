@@ -5,9 +5,8 @@ use account::is_later;
 use account::is_owned_by;
 use table::Table;
 
-// By place in the table: the code, whether the account is a branch of the sender's, and whether check 18 passes it. And whether there is a branch.
+// By place in the table: whether the account is a branch of the sender's, and whether check 18 passes it. And whether there is a branch.
 pub struct Branches {
-    pub codes: [u32; 64],
     pub owned: [bool; 64],
     pub later: [bool; 64],
     pub any: bool,
@@ -19,7 +18,6 @@ pub fn branches_of(t: Table, sender: u32, day: u32, second: u32) -> Branches
     ensures { λ r. ⌜ Marked sender (record { day = day; second = second }) t r ⌝ }
 {
     let n = t.count;
-    let codes = t.codes;
     let mut owned = [false; 64];
     let mut later = [true; 64];
     let mut any = false;
@@ -33,7 +31,6 @@ pub fn branches_of(t: Table, sender: u32, day: u32, second: u32) -> Branches
         i += 1;
     }
     Branches {
-        codes: codes,
         owned: owned,
         later: later,
         any: any,

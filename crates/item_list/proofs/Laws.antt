@@ -5,7 +5,7 @@ use mathlib.Core.List.{List, [], _∷_, _++_, map}
 use Prim.Native.Nat.{ℕ, zero, suc, _+_, _*_, _<_, _≤_}
 use native.Mathlib.Numerals.{add-one}
 use native.Mathlib.Omega.{arith}
-use lib.Dec.{ltb}
+use lib.Dec.{ltb, eqb}
 use lib.IntN.{ℤ, pos}
 use borrow.Author.Tests.{ltb-true, ltb-false}
 use lib.ListN.{length, take, getD, set, List·getD-eq-default}
@@ -21,7 +21,7 @@ use Rattle.table.specs.Promise.{Slot}
 use Rattle.table.proofs.Places.{map-append}
 use Rattle.item_list.specs.declared.Item.{Item}
 use Rattle.item_list.specs.declared.Flags.{Flags}
-use Rattle.item_list.specs.Records.{toItem, blank, recordAt, flagged, allFlagged, tested, reviewed}
+use Rattle.item_list.specs.Records.{recordOf, blank, recordAt, tested, reviewed}
 use Rattle.branches.specs.declared.Branches.{Branches}
 
 -- a test over a list and one more, on top of what was tested before
@@ -35,22 +35,21 @@ pub same-flags : {a b c d e f g h : Bool} → a ≡ e → b ≡ f → c ≡ g �
     → _≡_ {A = Flags} (record { later = a; typed = b; owned = c; ranged = d }) (record { later = e; typed = f; owned = g; ranged = h })
 same-flags p q r s = rw (p, q, r, s)
 
-flagged-more : (b : Branches) (f : Flags) (is : List Rule.Item) (i : Rule.Item) → allFlagged b f (is ++ (i ∷ [])) ≡ flagged b (allFlagged b f is) i
-unfolding allFlagged flagged
-flagged-more b f is i = same-flags (every-more (f .later) _ is i) (every-more (f .typed) _ is i) (every-more (f .owned) _ is i) (every-more (f .ranged) _ is i)
+reviewed-more : (b : Branches) (f : Flags) (is : List Item) (i : Item) → reviewed b f (is ++ (i ∷ [])) ≡ tested b (reviewed b f is) i
+unfolding reviewed tested
+reviewed-more b f is i = same-flags (every-more (f .later) _ is i) (every-more (f .typed) _ is i) (every-more (f .owned) _ is i) (every-more (f .ranged) _ is i)
 
 module _ (b : Branches) (f : Flags) (is : List Item) where
   -- no item is passed
   pub none-passed : reviewed b f (take 0 is) ≡ f
-  unfolding reviewed allFlagged every
+  unfolding reviewed every
   none-passed = same-flags (and-true (f .later)) (and-true (f .typed)) (and-true (f .owned)) (and-true (f .ranged))
 
   -- item i is passed
   pub one-more : (i : ℕ) → i < length is → tested b (reviewed b f (take i is)) (recordAt is i) ≡ reviewed b f (take (i + 1) is)
-  unfolding reviewed tested
   one-more i l =
-      sym (flagged-more b f (map toItem (take i is)) (toItem (recordAt is i)))
-      ∙ ap (allFlagged b f) (sym (map-append toItem (take i is) (recordAt is i)) ∙ ap (map toItem) (sym (take-suc is i blank l) ∙ ap (λ (k : ℕ). take k is) (sym (add-one i))))
+      sym (reviewed-more b f (take i is) (recordAt is i))
+      ∙ ap (reviewed b f) (sym (take-suc is i blank l) ∙ ap (λ (k : ℕ). take k is) (sym (add-one i)))
 
   -- every item is passed
   pub all-passed : (i : ℕ) → length is ≤ i → reviewed b f (take i is) ≡ reviewed b f is
@@ -74,23 +73,22 @@ module _ (l : List Bool) (long : length l ≡ 64) (p j : ℕ) (s : Slot p j) (x 
   pub later-mark : (not (ltb p 64) || getD l j x) ≡ getD l p true
   later-mark = (elim (ltb p 64) as (λ b. (not b || getD l j x) ≡ cond b (getD l j x) true) [ true ↦ refl | false ↦ refl ]) ∙ mark-at true (ltb p 64) refl
 
--- ---- the place of the account that an item names
-
-pub place-found : (codes account : List ℕ) (c p : ℕ) → length codes ≡ 64 → length account ≡ 10 → c ≡ named (part 0 10 account) → p ≡ placeOf c (take 64 codes) → p ≡ placeOf (named account) codes
-unfolding part
-place-found codes account c p l m e q = q ∙ ap₂ placeOf (e ∙ ap named (take-all 10 account (omega arith))) (take-all 64 codes (omega arith))
-
 -- ---- the records of a change
 
-module _ (accounts types : List ℕ) (values : List ℤ) where
+pub place-most : (c : ℕ) (l : List ℕ) → placeOf c l ≤ length l
+unfolding placeOf
+place-most c [] = omega arith
+place-most c (d ∷ l) = elim (eqb d c) as (λ b. cond b 0 (suc (placeOf c l)) ≤ suc (length l)) [ true ↦ omega arith | false ↦ omega (arith, place-most c l) ]
+
+module _ (codes accounts types : List ℕ) (values : List ℤ) where
   -- with the record of item i
-  pub record-more : (is : List Item) (i : ℕ) (account : List ℕ) (v : ℤ) → length is ≡ 16 → i < 16 → account ≡ part (i * 10) 10 accounts → v ≡ getD values i (pos 0)
-      → map toItem (take i is) ≡ itemsFrom 0 i accounts types values
-      → map toItem (take (i + 1) (set is i (record { account = account; kind = getD types i 0; value = v }))) ≡ itemsFrom 0 (i + 1) accounts types values
-  record-more is i account v l h e q w =
-      let x : Item = record { account = account; kind = getD types i 0; value = v } in
-      ap (λ n. map toItem (take n (set is i x))) (add-one i)
-      ∙ ap (map toItem) (take-suc-set is i x (omega arith))
-      ∙ map-append toItem (take i is) x
-      ∙ ap₂ (λ (js : List Rule.Item) (j : Rule.Item). js ++ (j ∷ [])) w (rw (e, q))
-      ∙ sym (items-next accounts types values i)
+  pub record-more : (is : List Item) (i : ℕ) (account : List ℕ) (p : ℕ) (v : ℤ) → length is ≡ 16 → i < 16 → account ≡ part (i * 10) 10 accounts → p ≡ placeOf (named (part (i * 10) 10 accounts)) codes
+      → v ≡ getD values i (pos 0) → take i is ≡ map (recordOf codes) (itemsFrom 0 i accounts types values)
+      → take (i + 1) (set is i (record { account = account; kind = getD types i 0; place = p; value = v })) ≡ map (recordOf codes) (itemsFrom 0 (i + 1) accounts types values)
+  record-more is i account p v l h e k q w =
+      let x : Item = record { account = account; kind = getD types i 0; place = p; value = v } in
+      ap (λ n. take n (set is i x)) (add-one i)
+      ∙ take-suc-set is i x (omega arith)
+      ∙ ap₂ (λ (js : List Item) (j : Item). js ++ (j ∷ [])) w (rw (e, k, q))
+      ∙ sym (map-append (recordOf codes) (itemsFrom 0 i accounts types values) _)
+      ∙ ap (map (recordOf codes)) (sym (items-next accounts types values i))

@@ -5,7 +5,7 @@ ghost use mathlib.Core.List.{map};
 ghost use Prim.Native.Nat.{_<_, _≤_};
 ghost use lib.ListN.{length, take};
 ghost use Rattle.command.specs.View.{itemsFrom};
-ghost use Rattle.item_list.specs.Records.{toItem, recordAt, tested, reviewed};
+ghost use Rattle.item_list.specs.Records.{recordOf, recordAt, tested, reviewed};
 use amount::is_limit;
 use branches::Branches;
 use message::is_type;
@@ -22,21 +22,30 @@ pub struct Flags {
     pub ranged: bool,
 }
 
-// Account id, type and value.
+// Account id, type, the place of the account among the codes looked at, and value.
 pub struct Item {
     pub account: [u8; 10],
     pub kind: u8,
+    pub place: u8,
     pub value: i64,
 }
 
-// The first n items of a change as records.
-pub fn records(accounts: [u8; 160], types: [u8; 16], values: [i64; 16], n: usize) -> [Item; 16]
-    requires { ⌜ n ≤ 16 ⌝ }
-    ensures { λ r. ⌜ map toItem (take n r) ≡ itemsFrom 0 n accounts types values ⌝ }
+// The first n items of a change as records; the codes in use are the first `count`.
+pub fn records(
+    codes: &[u32; 64],
+    count: usize,
+    accounts: [u8; 160],
+    types: [u8; 16],
+    values: [i64; 16],
+    n: usize,
+) -> [Item; 16]
+    requires { ⌜ (n ≤ 16) × (count ≤ 64) × (length (now codes) ≡ 64) ⌝ }
+    ensures { λ r. ⌜ take n r ≡ map (recordOf (take count (now (codes .entry)))) (itemsFrom 0 n accounts types values) ⌝ }
 {
     let none = Item {
         account: [0; 10],
         kind: 0,
+        place: 0,
         value: 0,
     };
     let mut items = [none; 16];
@@ -44,9 +53,11 @@ pub fn records(accounts: [u8; 160], types: [u8; 16], values: [i64; 16], n: usize
     while i < n {
         let mut account = [0u8; 10];
         copy(&accounts, i * 10, 10, &mut account, 0);
+        let p = place(codes, count, named(&accounts, i * 10));
         items[i] = Item {
             account: account,
             kind: types[i],
+            place: p as u8,
             value: values[i],
         };
         i += 1;
@@ -58,8 +69,7 @@ pub fn records(accounts: [u8; 160], types: [u8; 16], values: [i64; 16], n: usize
 pub fn test_item(b: Branches, f: Flags, item: Item) -> Flags
     ensures { λ r. ⌜ r ≡ tested b f item ⌝ }
 {
-    let account = item.account;
-    let p = place(&b.codes, 64, named(&account, 0));
+    let p = item.place as usize;
     let j = slot(p);
     let known = p < 64;
     let later = !known | b.later[j];

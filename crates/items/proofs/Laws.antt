@@ -1,11 +1,12 @@
 -- What the flags say of a message's checks, and how they come about. Assumes nothing.
 use mathlib.Core.Path.{_≡_, refl, sym, ap, ap₂, _∙_, subst}
 use mathlib.Core.Bool.{Bool, true, false, _&&_, and-true}
-use mathlib.Core.List.{List, [], _∷_}
+use mathlib.Core.List.{List, [], _∷_, map}
 use Prim.Native.Nat.{ℕ, _<_}
 use native.Mathlib.Omega.{arith}
 use lib.Dec.{T, ltb, ltb→lt}
 use lib.ListN.{length, take, drop, getD}
+use Rattle.amount.specs.Amount.{isLimit}
 use Rattle.rules.specs.Account as Rule
 use Rattle.rules.specs.Account.{known, at}
 use Rattle.rules.specs.Command.{Header, Item, Change, Deletion, every}
@@ -21,7 +22,8 @@ use Rattle.branches.specs.declared.Branches.{Branches}
 use Rattle.branches.specs.Marks.{Marked}
 use Rattle.branches.proofs.Lookup.{owned-found, later-found}
 use Rattle.item_list.specs.declared.Flags.{Flags}
-use Rattle.item_list.specs.Records.{allFlagged}
+use Rattle.item_list.specs.declared.Item as Listed
+use Rattle.item_list.specs.Records.{recordOf, laterIn, ownedIn, reviewed}
 use Rattle.items.specs.Items.{limits, Flagged, Named, Tested, isOwn, isInTime}
 
 -- ---- the checks of a message by its flags
@@ -76,13 +78,20 @@ unfolding every
 every-limit p q e [] = refl
 every-limit p q e (i ∷ is) = ap₂ (λ a b. a && b) (e i) (every-limit p q e is)
 
--- by the marks of the sender's branches
+every-record : (p : Listed.Item → Bool) (f : Item → Listed.Item) (is : List Item) → every p (map f is) ≡ every (λ i. p (f i)) is
+unfolding every
+every-record p f [] = refl
+every-record p f (i ∷ is) = ap (λ b. p (f i) && b) (every-record p f is)
+
+-- by the marks of the sender's branches, at the records' places
 pub items-flagged : (t : Table) → Good t → (h : Header) (b : Branches) → Marked (h .sender) (h .moment) t b → (is : List Item)
-    → Flagged h (accountsOf t) is (allFlagged b (record { later = true; typed = true; owned = true; ranged = true }) is)
-unfolding allFlagged isLater
-items-flagged t g h b m is = record {
-  later-is = every-limit _ _ (λ i. later-found t g (h .sender) (h .moment) b m (named (i .account))) is;
-  typed-is = every-limit _ _ (λ i. refl) is;
-  owned-is = every-limit _ _ (λ i. owned-found t g (h .sender) (h .moment) b m (named (i .account))) is;
-  ranged-is = refl;
-}
+    → Flagged h (accountsOf t) is (reviewed b (record { later = true; typed = true; owned = true; ranged = true }) (map (recordOf (take (t .count) (t .codes))) is))
+unfolding reviewed isLater
+items-flagged t g h b m is =
+    let f = recordOf (take (t .count) (t .codes)) in
+    record {
+      later-is = every-record (laterIn b) f is ∙ every-limit _ _ (λ i. later-found t g (h .sender) (h .moment) b m (named (i .account))) is;
+      typed-is = every-record (λ (i : Listed.Item). isType (i .kind)) f is ∙ every-limit _ _ (λ i. refl) is;
+      owned-is = every-record (ownedIn b) f is ∙ every-limit _ _ (λ i. owned-found t g (h .sender) (h .moment) b m (named (i .account))) is;
+      ranged-is = every-record (λ (i : Listed.Item). isLimit (i .value)) f is;
+    }

@@ -1,9 +1,11 @@
-// A chunk of lines, played: the book is lent, and payments are booked in place, so that the table is copied for other commands alone.
+// A chunk of lines, played: the book is lent, payments are booked and limits changed in place, so that the table goes into other calls alone.
 ghost use Rattle.promise.specs.Promise.{Sound};
 ghost use Rattle.run.specs.Run.{RanIs};
-use asking::amend;
 use asking::ask;
+use asking::plan;
 use frame::frame_length;
+use limit_change::item_slot;
+use limit_change::set_item;
 use parties::bank_slot;
 use parties::find_parties;
 use payment::decide;
@@ -27,7 +29,7 @@ pub struct Ran {
 }
 
 // Plays the whole lines of `lines` in order, as long as `out` has room for the longest answer line. A payment is booked here, on the table that
-// the loop owns, as `pay` books it, so that no table is copied. Where n is 0, byte 0 is an earlier frame's.
+// the loop owns, as `pay` books it, and the limits of a change are set so: the table does not come back from a call. Where n is 0, byte 0 is an earlier frame's.
 pub fn run(
     mut t: Table,
     ids: &mut [u8; 32768],
@@ -66,11 +68,19 @@ pub fn run(
                 t.accounts[l] = bank_in(t.accounts[l], p);
                 t.accounts[j] = own_in(t.accounts[j], p);
             }
-        } else if (n != 0) & ((frame[0] == 7) | (frame[0] == 8)) {
-            let m = amend(t, ids, days, used, &frame[..n]);
-            t = m.table;
-            used = m.used;
-            answer = m.answer;
+        } else if (n != 0) & (frame[0] == 7) {
+            let change = plan(t, ids, days, used, &frame[..n]);
+            used = change.used;
+            answer = change.answer;
+            let items = change.items;
+            let count = change.count;
+            let mut k: usize = 0;
+            while k < count {
+                let item = items[k];
+                let j = item_slot(item);
+                t.accounts[j] = set_item(t.accounts[j], item, change.day, change.second);
+                k += 1;
+            }
         } else if (n != 0) & (frame[0] == 9) {
             // A query leaves the table as it is.
             let q = ask(t, ids, days, used, &frame[..n], &mut report);

@@ -14,7 +14,7 @@ use Rattle.branches.proofs.branches_of.Statement.{statement}
 use Rattle.branches.proofs.branches_of.Tie as tie
 
 abbrev Inv-loop : tie.InvT-loop
-Inv-loop sender day second t n codes owned₀ later₀ any₀ i₀ owned later any i =
+Inv-loop sender day second t n owned₀ later₀ any₀ i₀ owned later any i =
     (i ≤ n)
     × (length owned ≡ 64)
     × (length later ≡ 64)
@@ -23,14 +23,14 @@ Inv-loop sender day second t n codes owned₀ later₀ any₀ i₀ owned later a
     × (any ≡ some? (isOwned sender) (take i (accountsOf t)))
 
 abbrev μ-loop : tie.MeasureT-loop
-μ-loop sender day second t n codes owned₀ later₀ any₀ i₀ owned later any i = n - i
+μ-loop sender day second t n owned₀ later₀ any₀ i₀ owned later any i = n - i
 
 long : (s : tie.Start Inv-loop μ-loop) → length (s .args .t1 .accounts) ≡ 64
 long s = search (needs, length-mapped)
 
 loop-holds : tie.Need-loop-holds Inv-loop μ-loop
 unfolding some?
-loop-holds c = let xs = accountsOf (c .before .args .t1) in (omega arith, refl, refl, sym (marks-none _ _ xs), sym (marks-none _ _ xs), refl)
+loop-holds c = let xs = accountsOf (c .args .t1) in (omega arith, refl, refl, sym (marks-none _ _ xs), sym (marks-none _ _ xs), refl)
 
 mul-x : tie.Need-mul-x Inv-loop μ-loop
 mul-x c = omega arith
@@ -59,7 +59,7 @@ loop-less c = omega arith
 loop-again : tie.Need-loop-again Inv-loop μ-loop
 loop-again c =
     let l = c .before .before .before .before in
-    let s = l .before .before in
+    let s = l .before in
     let t = s .args .t1 in
     let h : l .loop .i < t .count = omega arith in
     let own = c .before .is-owned-by .ensures in (
@@ -74,10 +74,9 @@ loop-again c =
 returns : tie.Need-returns Inv-loop μ-loop
 returns c =
     let l = c .before in
-    let s = l .before .before in
+    let s = l .before in
     let e : l .loop .i ≡ s .args .t1 .count = omega arith in
     record {
-      codes-are = refl;
       owned-are = l .loop .inv .3 ∙ marks-all _ _ (s .args .t1) (s .pre) (long s) _ e;
       later-are = l .loop .inv .4 ∙ marks-all _ _ (s .args .t1) (s .pre) (long s) _ e;
       any-is = l .loop .inv .5 ∙ some-all _ (s .args .t1) (s .pre) (long s) _ e;

@@ -1,7 +1,7 @@
--- The records before i are the items before i. Assumes nothing.
+-- The records before i are those of the items before i. Assumes nothing.
 use borrow.Author.Needs.{needs}
 use native.Mathlib.Omega.{arith}
-use mathlib.Core.Path.{_≡_, refl, _∙_}
+use mathlib.Core.Path.{_≡_, refl, ap, _∙_}
 use mathlib.Core.List.{map}
 use Prim.Native.Nat.{ℕ, _*_, _-_, _≤_, _<_}
 use mir.Syntax.{w64}
@@ -9,24 +9,27 @@ use mir.Val.{SFits}
 use mir.Facts.{toZ-ofZ}
 use lib.IntN.{pos}
 use lib.ListN.{length, take, getD, length-set}
+use lib.Seq.{length-take-le}
 use Rattle.octets.proofs.Places.{part-length, write-all}
 use Rattle.command.specs.View.{itemsFrom}
 use Rattle.command.proofs.Forms.{amount-fits}
-use Rattle.item_list.specs.Records.{toItem}
-use Rattle.item_list.proofs.Laws.{record-more}
+use Rattle.table.specs.View.{placeOf}
+use Rattle.item_list.specs.Records.{recordOf}
+use Rattle.item_list.proofs.Laws.{place-most, record-more}
 use Rattle.item_list.proofs.records.Statement.{statement}
 use Rattle.item_list.proofs.records.Tie as tie
 
 abbrev Inv-loop : tie.InvT-loop
-Inv-loop n accounts types values items₀ i₀ items i = (i ≤ n) × (length items ≡ 16) × (map toItem (take i items) ≡ itemsFrom 0 i accounts types values)
+Inv-loop codes count n accounts types values items₀ i₀ items i =
+    (i ≤ n) × (length items ≡ 16) × (take i items ≡ map (recordOf (take count codes)) (itemsFrom 0 i accounts types values))
 
 abbrev μ-loop : tie.MeasureT-loop
-μ-loop n accounts types values items₀ i₀ items i = n - i
+μ-loop codes count n accounts types values items₀ i₀ items i = n - i
 
-long : (s : tie.Start Inv-loop μ-loop) → length (s .args .t1) ≡ 160
+long : (s : tie.Start Inv-loop μ-loop) → length (s .args .t3) ≡ 160
 long s = search needs
 
-fits-at : (s : tie.Start Inv-loop μ-loop) (i : ℕ) → SFits w64 (getD (s .args .t3) i (pos 0))
+fits-at : (s : tie.Start Inv-loop μ-loop) (i : ℕ) → SFits w64 (getD (s .args .t5) i (pos 0))
 fits-at s i = search (needs, amount-fits)
 
 loop-holds : tie.Need-loop-holds Inv-loop μ-loop
@@ -45,14 +48,36 @@ slice-aggregate-copy-2 c = search needs
 copy-requires : tie.Need-copy-requires Inv-loop μ-loop
 copy-requires c κs = let e = long (c .before .before .before .before) in (omega arith, omega arith)
 
-array-read-t23 : tie.Need-array-read-t23 Inv-loop μ-loop
-array-read-t23 c = omega arith
+slice-aggregate-named : tie.Need-slice-aggregate-named Inv-loop μ-loop
+slice-aggregate-named c = search needs
 
-mul-t17 : tie.Need-mul-t17 Inv-loop μ-loop
-mul-t17 c = omega arith
+mul-named : tie.Need-mul-named Inv-loop μ-loop
+mul-named c = omega arith
 
-array-copy-out-t26 : tie.Need-array-copy-out-t26 Inv-loop μ-loop
-array-copy-out-t26 c = omega arith
+named-requires : tie.Need-named-requires Inv-loop μ-loop
+named-requires c κs = let e = long (c .before .before .before .before .before .before .before) in omega arith
+
+place-requires : tie.Need-place-requires Inv-loop μ-loop
+place-requires c κs = let s = c .before .before .before .before .before .before .before .before in (s .pre .1, s .pre .2)
+
+array-read-t29 : tie.Need-array-read-t29 Inv-loop μ-loop
+array-read-t29 c = omega arith
+
+-- a place is at most 64
+small : (c : tie.After-place Inv-loop μ-loop) → c .place .result ≤ 64
+small c =
+    let s = c .before .before .before .before .before .before .before .before .before in
+    let l = take (s .args .count) (s .args .codes .now) in
+    omega (arith, c .place .ensures, place-most (c .before .named .result) l, length-take-le (s .args .count) (s .args .codes .now) (omega (arith, s .pre .1, s .pre .2)), s .pre .1)
+
+cast-t30 : tie.Need-cast-t30 Inv-loop μ-loop
+cast-t30 c = omega (arith, small c)
+
+mul-t20 : tie.Need-mul-t20 Inv-loop μ-loop
+mul-t20 c = omega arith
+
+array-copy-out-t33 : tie.Need-array-copy-out-t33 Inv-loop μ-loop
+array-copy-out-t33 c = omega arith
 
 mul-items : tie.Need-mul-items Inv-loop μ-loop
 mul-items c = omega arith
@@ -68,14 +93,17 @@ loop-less c = omega arith
 
 loop-again : tie.Need-loop-again Inv-loop μ-loop
 loop-again c =
-    let l = c .before .before .before .before .before .before in
+    let l = c .before .before .before .before .before .before .before .before .before in
     let s = l .before in
     let i = l .loop .i in
-    let below : i < 16 = omega (arith, s .pre, c .before .before .before .before .before .loop-test .taken) in
-    let bytes = part-length (i * 10) 10 (s .args .t1) (omega (arith, long s)) in (
+    let p = c .before .place in
+    let below : i < 16 = omega (arith, s .pre .0, c .before .before .before .before .before .before .before .before .loop-test .taken) in
+    let bytes = part-length (i * 10) 10 (s .args .t3) (omega (arith, long s)) in (
       omega arith,
       simp length-set (l .loop .inv .1),
-      record-more (s .args .t1) (s .args .t2) (s .args .t3) (l .loop .items) i _ _ (l .loop .inv .1) below (c .before .before .copy .ensures ∙ write-all _ (_) bytes) (toZ-ofZ (fits-at s i)) (l .loop .inv .2),
+      record-more (take (s .args .count) (s .args .codes .now)) (s .args .t3) (s .args .t4) (s .args .t5) (l .loop .items) i _ _ _ (l .loop .inv .1) below
+          (c .before .before .before .before .before .copy .ensures ∙ write-all _ (_) bytes)
+          (p .ensures ∙ ap (λ (k : ℕ). placeOf k (take (s .args .count) (s .args .codes .now))) (c .before .before .named .ensures)) (toZ-ofZ (fits-at s i)) (l .loop .inv .2),
     )
 
 returns : tie.Need-returns Inv-loop μ-loop
@@ -92,9 +120,14 @@ records-spec =
     mul-copy
     slice-aggregate-copy-2
     copy-requires
-    array-read-t23
-    mul-t17
-    array-copy-out-t26
+    slice-aggregate-named
+    mul-named
+    named-requires
+    place-requires
+    array-read-t29
+    cast-t30
+    mul-t20
+    array-copy-out-t33
     mul-items
     array-set-from-items
     add-i

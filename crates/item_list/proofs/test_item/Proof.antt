@@ -1,24 +1,16 @@
 -- Each flag is what it was and what the functions called say of the item. Assumes nothing.
 use borrow.Author.Needs.{needs}
-use native.Mathlib.Omega.{arith}
 use mathlib.Core.Path.{_≡_, ap, _∙_}
 use mathlib.Core.Bool.{Bool, true, false, _&&_}
-use Prim.Native.Nat.{ℕ}
 use mir.Syntax.{w64}
 use mir.Val.{SFits}
 use mir.Facts.{toZ-ofZ}
-use lib.ListN.{length, getD}
+use lib.ListN.{length}
 use Rattle.amount.specs.Amount.{isLimit}
-use Rattle.item_list.specs.Records.{flagged, tested}
-use Rattle.item_list.proofs.Laws.{same-flags, owned-mark, later-mark, place-found}
+use Rattle.item_list.specs.Records.{tested}
+use Rattle.item_list.proofs.Laws.{same-flags, owned-mark, later-mark}
 use Rattle.item_list.proofs.test_item.Statement.{statement}
 use Rattle.item_list.proofs.test_item.Tie as tie
-
-account-long : (s : tie.Start) → length (s .args .item .account) ≡ 10
-account-long s = search needs
-
-codes-long : (s : tie.Start) → length (s .args .t1 .codes) ≡ 64
-codes-long s = search needs
 
 owned-long : (s : tie.Start) → length (s .args .t1 .owned) ≡ 64
 owned-long s = search needs
@@ -29,14 +21,8 @@ later-long s = search needs
 value-fits : (s : tie.Start) → SFits w64 (s .args .item .value)
 value-fits s = search needs
 
-slice-aggregate-named : tie.Need-slice-aggregate-named
-slice-aggregate-named c = search needs
-
-named-requires : tie.Need-named-requires
-named-requires c κs = omega (arith, account-long (c .before .before .before .before))
-
-place-requires : tie.Need-place-requires
-place-requires c κs = search needs
+cast-p : tie.Need-cast-p
+cast-p c = search needs
 
 slot-requires : tie.Need-slot-requires
 slot-requires c κs = search needs
@@ -54,30 +40,25 @@ is-limit-requires : tie.Need-is-limit-requires
 is-limit-requires c κs = search needs
 
 returns : tie.Need-returns
-unfolding tested flagged
+unfolding tested
 returns c =
-    let s = c .before .before .before .before .before .before .before .before .before .before .before .before .before .before .before .before in
+    let k = c .before .before .before .before .before .before .before .before .before in
+    let s = k .before .before in
     let b = s .args .t1 in
     let f = s .args .f in
-    let x = s .args .item in
-    let k = c .before .before .before .before .before .before .before .before .before in
-    let p = k .before .place in
+    let p = s .args .item .place in
     let j = k .slot in
-    let n = k .before .before .named in
-    let at = place-found (b .codes) (x .account) (n .result) (p .result) (codes-long s) (account-long s) (n .ensures) (p .ensures) in
     same-flags
-    (ap (λ (q : Bool). f .later && q) (later-mark (b .later) (later-long s) (p .result) (j .result) (j .ensures) false ∙ ap (λ (i : ℕ). getD (b .later) i true) at))
+    (ap (λ (q : Bool). f .later && q) (later-mark (b .later) (later-long s) p (j .result) (j .ensures) false))
     (ap (λ (q : Bool). f .typed && q) (c .before .before .before .before .before .is-type .ensures))
-    (ap (λ (q : Bool). f .owned && q) (owned-mark (b .owned) (owned-long s) (p .result) (j .result) (j .ensures) false ∙ ap (λ (i : ℕ). getD (b .owned) i false) at))
+    (ap (λ (q : Bool). f .owned && q) (owned-mark (b .owned) (owned-long s) p (j .result) (j .ensures) false))
     (ap (λ (q : Bool). f .ranged && q) (c .before .is-limit .ensures ∙ ap isLimit (toZ-ofZ (value-fits s))))
 
 pub test-item-spec : {M : Type 1} → statement M
 test-item-spec =
     tie.close
     (tie.spec
-    slice-aggregate-named
-    named-requires
-    place-requires
+    cast-p
     slot-requires
     element-copy-out-later
     element-copy-out-owned

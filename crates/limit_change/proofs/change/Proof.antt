@@ -1,38 +1,20 @@
--- Kind 07 as a whole call. Assumes nothing.
+-- Kind 07 as a whole call: judged, and the items set. Assumes nothing.
 use borrow.Author.Needs.{needs}
-use mathlib.Core.Path.{_≡_, refl, sym, ap₂, _∙_}
-use mathlib.Core.Bool.{_&&_}
-use mathlib.Core.Logic.{⊎-elim}
+use mathlib.Core.Path.{refl, sym, _∙_}
 use mathlib.Core.List.{List}
-use Prim.Native.Nat.{ℕ, _≤_, _<_}
-use native.Mathlib.Omega.{arith}
-use lib.Dec.{T, leb}
-use lib.ListN.{length, getD}
-use lib.IntN.{pos}
-use mir.Syntax.{w8, w32, w64}
-use mir.Val.{Fits, SFits}
-use Rattle.octets.proofs.Numbers.{fits-money}
-use Rattle.rules.specs.Command.{Header, Item, Command, Change, isCode, isCount, wellFormed}
-use Rattle.rules.specs.Machine.{Machine, checks, effect, answer, firstFailure}
-use Rattle.rules.specs.Message.{limitChecks, setItems}
-use Rattle.rules.proofs.Bools.{is-true}
-use Rattle.rules.proofs.Checks.{passed}
-use Rattle.frame.proofs.Rows.{is-bytes}
+use Rattle.rules.specs.Command.{Header, Item, Command, Change}
+use Rattle.rules.specs.Machine.{effect}
+use Rattle.rules.specs.Message.{setItems}
 use Rattle.command.specs.View.{toHeader, itemsFrom}
-use Rattle.command.proofs.Forms.{bytes-fit, amount-fits, change-formed, count-most, items-length, items-fit}
 use Rattle.table.specs.View.{accountsOf}
-use Rattle.table.specs.Promise.{Good}
-use Rattle.table.proofs.Places.{length-mapped}
-use Rattle.promise.specs.View.{viewOf, lent}
+use Rattle.promise.specs.View.{viewOf}
 use Rattle.promise.proofs.Laws.{good-table, settled-no}
-use Rattle.header.specs.Parts.{headerChecks}
-use Rattle.header.proofs.Parts.{header-answer, change-rest}
-use Rattle.header.proofs.Calls.{header-fails, header-passes, room, taken}
+use Rattle.header.proofs.Calls.{taken}
 use Rattle.limit_change.proofs.change.Statement.{statement}
 use Rattle.limit_change.proofs.change.Tie as tie
 
 abbrev of : tie.Start → Header
-of s = toHeader (s .args .header) (s .args .t6)
+of s = toHeader (s .args .header) (s .args .id)
 
 abbrev items : tie.Start → List Item
 items s = itemsFrom 0 (s .args .n) (s .args .accounts) (s .args .types) (s .args .values)
@@ -40,164 +22,32 @@ items s = itemsFrom 0 (s .args .n) (s .args .accounts) (s .args .types) (s .args
 abbrev asked : tie.Start → Command
 asked s = Change (of s) (items s)
 
-abbrev view : tie.Start → Machine
-view s = viewOf (s .args .t1) (s .args .ids .now) (s .args .days .now) (s .args .used)
-
-good : (s : tie.Start) → Good (s .args .t1)
-good s = good-table (s .args .t1) (s .args .ids .now) (s .args .days .now) (s .args .used) (s .pre)
-
-id-long : (s : tie.Start) → length (s .args .t6) ≡ 32
-id-long s = search needs
-
-long : (s : tie.Start) → length (s .args .t1 .accounts) ≡ 64
-long s = search (needs, length-mapped)
-
-formed : (s : tie.Start) → wellFormed (asked s) ≡ ((isCode (s .args .header .sender) && leb (s .args .header .second) 86399) && isCount (s .args .n))
-formed s =
-    let d : Fits w32 (s .args .header .day) = search needs in
-    let l : length (s .args .accounts) ≡ 160 = search needs in
-    let f : (k : ℕ) → Fits w8 (getD (s .args .types) k 0) = λ k. search needs in
-    let g : (k : ℕ) → SFits w64 (getD (s .args .values) k (pos 0)) = λ k. search (needs, amount-fits) in
-    change-formed (s .args .header) (s .args .t6) (is-bytes 32 (s .args .t6) (id-long s) (bytes-fit (s .args .t6) (λ k. search needs))) (d .fits)
-    (s .args .n) (s .args .accounts) (s .args .types) (s .args .values)
-    (λ m.
-    items-fit (s .args .accounts) (s .args .types) (s .args .values) 0 (s .args .n) (omega arith) (bytes-fit (s .args .accounts) (λ k. search needs))
-    (λ k. f k .fits) (λ k. fits-money (getD (s .args .values) k (pos 0)) (g k)))
-    (items-length (s .args .accounts) (s .args .types) (s .args .values) 0 (s .args .n))
-
-few : (s : tie.Start) → T (wellFormed (asked s)) → s .args .n ≤ 16
-few s w = count-most (s .args .header) (s .args .n) (sym (formed s) ∙ is-true (wellFormed (asked s)) w)
-
-abbrev entry : tie.After-header-checks → tie.Start
-entry c = c .before .before .before .before .before .before .before .before .before .before .before .before .before .before
-
-tested : (c : tie.After-header-checks) → (c .before .before .before .before .before .is-header .result && c .before .before .before .before .is-count .result) ≡ wellFormed (asked (entry c))
-tested c = ap₂ _&&_ (c .before .before .before .before .before .is-header .ensures) (c .before .before .before .before .is-count .ensures) ∙ sym (formed (entry c))
-
--- what the header's checks answered
-header-is : (c : tie.After-header-checks) → c .header-checks .result ≡ firstFailure (headerChecks (wellFormed (asked (entry c))) (of (entry c)) (view (entry c)))
-header-is c =
-    let s = entry c in
-    let k = c .before .before .before .before .before .before in
-    let i = k .before .before .before .before .before .place in
-    let j = k .before .before .before .before .slot in
-    header-answer (s .args .t1) (good s) (long s) (s .args .header) (i .result) (j .result) (i .ensures) (j .ensures) _ _ _ (k .before .is-bank .ensures)
-    (k .before .before .branches-of .ensures .any-is) (s .args .t6) (s .args .ids .now) (s .args .days .now) (s .args .used) _ _ (tested c)
-    _ (c .header-checks .ensures (s .args .days .now))
-
-answered : (c : tie.Joined1) → c .if1 .a ≡ answer (view (entry (c .before))) (lent 0 (asked (entry (c .before))))
-unfolding checks headerChecks toHeader
-answered c =
-    let s = entry (c .before) in
-    let f = wellFormed (asked s) in
-    let e = header-is (c .before) in
-    ⊎-elim
-    (λ w.
-    w .3
-    ∙ header-passes (asked s) (of s) (s .args .t1) (s .args .ids .now) (s .args .days .now) (s .args .used) f refl (c .before .header-checks .result) e (w .0 .taken) (w .2 .result)
-    (w .2 .ensures ∙ change-rest (s .args .t1) (s .args .ids .now) (s .args .days .now) (s .args .used) (of s) (w .1 .result) (items s) (w .1 .ensures (of s) (s .args .t1) (good s) (c .before .before .before .before .before .before .before .before .before .branches-of .ensures))))
-    (λ w. w .1 ∙ header-fails (asked s) (of s) (s .args .t1) (s .args .ids .now) (s .args .days .now) (s .args .used) f refl (c .before .header-checks .result) e (w .0 .left))
-    (c .if1 .came)
-
-accepted : (c : tie.Else2) → answer (view (entry (c .before .before))) (lent 0 (asked (entry (c .before .before)))) ≡ 0
-accepted c = sym (answered (c .before)) ∙ c .if2 .left
-
-placed : (c : tie.Else2) → entry (c .before .before) .args .used < 1024
-unfolding answer checks limitChecks
-placed c =
-    let s = entry (c .before .before) in
-    room (asked s) (of s) (s .args .t1) (s .args .ids .now) (s .args .days .now) (s .args .used) (passed 22 (checks (view s) 0 (asked s)) tt (accepted c))
-
-place-requires : tie.Need-place-requires
-place-requires c κs = search needs
-
-slot-requires : tie.Need-slot-requires
-slot-requires c κs = search needs
-
-mul-x : tie.Need-mul-x
-mul-x c = search needs
-
-element-copy-out-x : tie.Need-element-copy-out-x
-element-copy-out-x c = search needs
-
-branches-of-requires : tie.Need-branches-of-requires
-branches-of-requires c κs = good (c .before .before .before .before .before)
-
-is-bank-requires : tie.Need-is-bank-requires
-is-bank-requires c κs = search needs
-
-is-header-requires : tie.Need-is-header-requires
-is-header-requires c κs = search needs
-
-is-count-requires : tie.Need-is-count-requires
-is-count-requires c κs = search needs
-
-slice-aggregate-header-checks : tie.Need-slice-aggregate-header-checks
-slice-aggregate-header-checks c = sym (id-long (c .before .before .before .before .before .before .before .before .before .before .before .before .before))
-
-header-checks-requires : tie.Need-header-checks-requires
-header-checks-requires c κs =
-    let s = c .before .before .before .before .before .before .before .before .before .before .before .before .before in
-    (omega (arith, s .pre .few, s .pre .lengths .ids-long), id-long s)
-
-test-items-requires : tie.Need-test-items-requires
-unfolding headerChecks
-test-items-requires c κs =
-    let s = entry (c .before) in
-    few s (passed 1 (headerChecks (wellFormed (asked s)) (of s) (view s)) tt (sym (header-is (c .before)) ∙ c .if1 .taken))
-
-named-checks-requires : tie.Need-named-checks-requires
-named-checks-requires c κs = search needs
+judge-requires : tie.Need-judge-requires
+judge-requires c κs = search needs
 
 returns : tie.Need-returns
 returns c =
-    let s = entry (c .before .before) in
-    settled-no (asked s) (s .args .t1) (s .args .ids .now) (s .args .days .now) (s .args .used) (s .pre) (c .before .if1 .a) (answered (c .before)) (c .if2 .taken)
+    let j = c .before .before .judge in
+    let s = c .before .before .before .before .before in
+    let q = j .ensures .refused (c .if1 .taken) in
+    rw (q .0, q .1) (settled-no (asked s) (s .args .t) (s .args .ids .now) (s .args .days .now) (s .args .used) (s .pre) (j .result .answer) (j .ensures .says) (c .if1 .taken))
 
 set-items-requires : tie.Need-set-items-requires
-unfolding answer checks limitChecks
 set-items-requires c κs =
-    let s = entry (c .before .before) in
-    (good s, few s (passed 1 (checks (view s) 0 (asked s)) tt (accepted c)))
-
-slice-aggregate-add-id : tie.Need-slice-aggregate-add-id
-slice-aggregate-add-id c = sym (id-long (entry (c .before .before .before .before .before .before)))
-
-add-id-requires : tie.Need-add-id-requires
-add-id-requires c κs =
-    let s = entry (c .before .before .before .before .before .before) in
-    (placed (c .before .before .before .before), s .pre .lengths, id-long s)
-
-add-more : tie.Need-add-more
-add-more c = omega (arith, placed (c .before .before .before .before .before))
+    let j = c .before .before .judge in
+    let s = c .before .before .before .before .before in
+    (good-table (s .args .t) (s .args .ids .now) (s .args .days .now) (s .args .used) (s .pre), j .ensures .passed (c .if1 .left) .few)
 
 returns-2 : tie.Need-returns-2
 unfolding toHeader effect viewOf
 returns-2 c =
-    let s = entry (c .before .before .before .before .before .before .before) in
-    let u = c .before .before .before .before .set-items in
-    taken (asked s) (of s) (s .args .t1) (s .args .ids .now) (s .args .days .now) (s .args .used) (s .pre) (u .result) (setItems (of s) (items s) (accountsOf (s .args .t1))) _ _
-    (accepted (c .before .before .before .before .before)) (placed (c .before .before .before .before .before)) (u .ensures (s .args .t6)) (c .add-id .ensures) refl
+    let j = c .before .before .before .judge in
+    let s = c .before .before .before .before .before .before in
+    let z = c .before .if1 .left in
+    let p = j .ensures .passed z in
+    rw (p .used-is)
+    (taken (asked s) (of s) (s .args .t) (s .args .ids .now) (s .args .days .now) (s .args .used) (s .pre) (c .set-items .result) (setItems (of s) (items s) (accountsOf (s .args .t))) _ _
+    (sym (j .ensures .says) ∙ z) (p .room) (c .set-items .ensures (s .args .id)) (p .added) refl)
 
 pub change-spec : {M : Type 1} → statement M
-change-spec =
-    tie.close
-    (tie.spec
-    place-requires
-    slot-requires
-    mul-x
-    element-copy-out-x
-    branches-of-requires
-    is-bank-requires
-    is-header-requires
-    is-count-requires
-    slice-aggregate-header-checks
-    header-checks-requires
-    test-items-requires
-    named-checks-requires
-    returns
-    set-items-requires
-    slice-aggregate-add-id
-    add-id-requires
-    add-more
-    returns-2)
+change-spec = tie.close (tie.spec judge-requires returns set-items-requires returns-2)
