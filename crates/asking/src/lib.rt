@@ -7,7 +7,7 @@ ghost use Rattle.promise.specs.Promise.{Sound, Played};
 ghost use Rattle.limit_change.specs.Plan.{Planned};
 use command::Command;
 use command::parse;
-use item_list::Item;
+use item_list::records;
 use limit_change::Plan;
 use limit_change::judge;
 use query::Asked;
@@ -59,24 +59,13 @@ pub fn plan(
     let values = order.values;
     match command {
         Command::Change(h, n) => judge(t, ids, days, used, h, id, accounts, types, values, n),
-        _ => nothing_planned(used),
-    }
-}
-
-// Of no command.
-fn nothing_planned(used: usize) -> Plan {
-    let none = Item {
-        account: [0; 10],
-        kind: 0,
-        place: 0,
-        value: 0,
-    };
-    Plan {
-        answer: 1,
-        used: used,
-        count: 0,
-        day: 0,
-        second: 0,
-        items: [none; 16],
+        _ => Plan {
+            answer: 1,
+            used: used,
+            count: 0,
+            day: 0,
+            second: 0,
+            items: records(&t.codes, 0, accounts, types, values, 0),
+        },
     }
 }

@@ -1,4 +1,5 @@
-use mathlib.Core.Path.{sym, _∙_}
+use mathlib.Core.Path.{_≡_, sym, _∙_}
+use native.Mathlib.Omega.{arith}
 use lib.ListN.{length}
 use Rattle.command.specs.View.{toCommands}
 use Rattle.command.proofs.ByKind.{ordered-is}
@@ -7,11 +8,10 @@ use Rattle.table.proofs.Places.{length-mapped}
 use Rattle.limit_change.proofs.Laws.{planned}
 use Rattle.asking.proofs.Held.{change-held}
 use borrow.Author.Needs.{needs}
-use mathlib.Core.Path.{_≡_}
 use Rattle.asking.proofs.plan.Statement.{statement}
 use Rattle.asking.proofs.plan.Tie as tie
 
-long : (s : tie.Start) → length (s .args .t .accounts) ≡ 64
+long : (s : tie.Start) → length (s .args .t1 .accounts) ≡ 64
 long s = search (needs, length-mapped)
 
 parse-requires : tie.Need-parse-requires
@@ -23,8 +23,8 @@ enum-known-command c = search needs
 judge-requires : tie.Need-judge-requires
 judge-requires c κs = c .before .before .before .before .before .before .before .before .before .before .before .pre .2
 
-nothing-planned-requires : tie.Need-nothing-planned-requires
-nothing-planned-requires c κs = search needs
+records-requires : tie.Need-records-requires
+records-requires c κs = (omega arith, omega arith, search needs)
 
 returns : tie.Need-returns
 unfolding toCommands
@@ -36,9 +36,9 @@ returns c =
 
 returns-2 : tie.Need-returns-2
 returns-2 c =
-    let s = c .before .before .before .before .before .before .before .before in
-    let p = c .before .before .before .before .before .before .parse in
-    absurd (change-held (s .args .frame .now) (p .result) (s .pre .0) (s .pre .1) (p .ensures) (c .before .match .keys2))
+    let s = c .before .before .before .before .before .before .before .before .before .before in
+    let p = c .before .before .before .before .before .before .before .before .parse in
+    absurd (change-held (s .args .frame .now) (p .result) (s .pre .0) (s .pre .1) (p .ensures) (c .before .before .before .match .keys2))
 
 pub plan-spec : {M : Type 1} → statement M
-plan-spec = tie.close (tie.spec parse-requires enum-known-command judge-requires nothing-planned-requires returns returns-2)
+plan-spec = tie.close (tie.spec parse-requires enum-known-command judge-requires records-requires returns returns-2)

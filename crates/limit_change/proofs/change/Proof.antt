@@ -2,6 +2,7 @@
 use borrow.Author.Needs.{needs}
 use mathlib.Core.Path.{refl, sym, _∙_}
 use mathlib.Core.List.{List}
+use native.Mathlib.Omega.{arith}
 use Rattle.rules.specs.Command.{Header, Item, Command, Change}
 use Rattle.rules.specs.Machine.{effect}
 use Rattle.rules.specs.Message.{setItems}
@@ -36,7 +37,7 @@ set-items-requires : tie.Need-set-items-requires
 set-items-requires c κs =
     let j = c .before .before .judge in
     let s = c .before .before .before .before .before in
-    (good-table (s .args .t) (s .args .ids .now) (s .args .days .now) (s .args .used) (s .pre), j .ensures .passed (c .if1 .left) .few)
+    (good-table (s .args .t) (s .args .ids .now) (s .args .days .now) (s .args .used) (s .pre), omega (arith, j .ensures .passed (c .if1 .left) .few))
 
 returns-2 : tie.Need-returns-2
 unfolding toHeader effect viewOf

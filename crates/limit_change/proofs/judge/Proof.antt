@@ -99,7 +99,7 @@ answered c =
     let s = entry k in
     header-passes (asked s) (of s) (s .args .t1) (s .args .ids .now) (s .args .days .now) (s .args .used) (wellFormed (asked s)) refl (k .header-checks .result) (header-is k) (e .if1 .left) (c .named-checks .result)
     (c .named-checks .ensures ∙ change-rest (s .args .t1) (s .args .ids .now) (s .args .days .now) (s .args .used) (of s) (c .before .test-items .result) (items s)
-    (c .before .test-items .ensures (of s) (s .args .t1) (items s) (good s) (k .before .before .before .before .before .before .before .before .branches-of .ensures) (c .before .before .records .ensures)))
+    (c .before .test-items .ensures (of s) (s .args .t1) (items s) (good s) (k .before .before .before .before .before .before .before .before .branches-of .ensures) (c .before .before .records2 .ensures)))
 
 accepted : (c : tie.Else2) → let s = entry (c .before .before .before .before .before .before .before) in answer (view s) (lent 0 (asked s)) ≡ 0
 accepted c = sym (answered (c .before)) ∙ c .if2 .left
@@ -142,8 +142,8 @@ header-checks-requires c κs =
     let s = c .before .before .before .before .before .before .before .before .before .before .before .before .before in
     (omega (arith, s .pre .few, s .pre .lengths .ids-long), id-long s)
 
-no-items-requires : tie.Need-no-items-requires
-no-items-requires c κs = search needs
+records-requires : tie.Need-records-requires
+records-requires c κs = let s = entry (c .before .before .before) in (omega arith, good s .within, search needs)
 
 declined-requires : tie.Need-declined-requires
 declined-requires c κs = search needs
@@ -151,14 +151,14 @@ declined-requires c κs = search needs
 returns : tie.Need-returns
 unfolding headerChecks checks
 returns c =
-    let k = c .before .before .before in
+    let k = c .before .before .before .before .before in
     let s = entry k in
     judged-no (s .args .header) (s .args .t6) (items s) (s .args .n) (s .args .t1) (s .args .ids .now) (s .args .days .now) (s .args .used) (k .header-checks .result) _ (c .declined .result)
-    (header-fails (asked s) (of s) (s .args .t1) (s .args .ids .now) (s .args .days .now) (s .args .used) (wellFormed (asked s)) refl (k .header-checks .result) (header-is k) (c .before .before .if1 .taken))
-    (c .before .before .if1 .taken) (c .declined .ensures)
+    (header-fails (asked s) (of s) (s .args .t1) (s .args .ids .now) (s .args .days .now) (s .args .used) (wellFormed (asked s)) refl (k .header-checks .result) (header-is k) (c .before .before .before .before .if1 .taken))
+    (c .before .before .before .before .if1 .taken) (c .declined .ensures)
 
-records-requires : tie.Need-records-requires
-records-requires c κs = let s = entry (c .before .before .before) in (fits (c .before .before), good s .within, search needs)
+records-requires-2 : tie.Need-records-requires-2
+records-requires-2 c κs = let s = entry (c .before .before .before) in (fits (c .before .before), good s .within, search needs)
 
 test-items-requires : tie.Need-test-items-requires
 test-items-requires c κs = fits (c .before .before .before)
@@ -202,7 +202,7 @@ returns-3 c =
         used-is = refl;
         count-is = refl;
         added = c .add-id .ensures;
-        listed = e .before .before .before .records .ensures;
+        listed = e .before .before .before .records2 .ensures;
       };
     }
 
@@ -220,10 +220,10 @@ judge-spec =
     is-count-requires
     slice-aggregate-header-checks
     header-checks-requires
-    no-items-requires
+    records-requires
     declined-requires
     returns
-    records-requires
+    records-requires-2
     test-items-requires
     named-checks-requires
     declined-requires-2
