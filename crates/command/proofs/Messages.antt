@@ -16,7 +16,7 @@ use Rattle.octets.proofs.Places.{part-part, number-one}
 use Rattle.rules.specs.Command as Rule
 use Rattle.rules.specs.Command.{isCount}
 use Rattle.rules.specs.Message.{decimal}
-use Rattle.field_tests.specs.Place.{sixDigits, wordAt}
+use Rattle.frame_fields.specs.Place.{sixDigits, wordAt}
 use Rattle.frame.specs.Field.{Plain, size, rowSize, width, may, plainValue, rowValue, rowsValue, valueOf, areFields, allValues}
 use Rattle.frame.specs.Frame.{K07, K08, K09, kindByte, itemRow, idRow, fieldsOf, isFrame, headerOf, itemOf, idOf, commandOf, commandsOf}
 use Rattle.command.specs.declared.Header.{Header}

@@ -14,7 +14,7 @@ use Rattle.octets.proofs.Numbers.{both}
 use Rattle.octets.proofs.Places.{whole-bytes}
 use Rattle.rules.specs.Command.{every}
 use Rattle.rules.specs.Message.{isDigit, decimal}
-use Rattle.field_tests.specs.Place.{sixDigits}
+use Rattle.frame_fields.specs.Place.{sixDigits}
 use Rattle.frame.specs.Field.{digits}
 
 -- ---- tests

@@ -13,7 +13,7 @@ use Rattle.octets.proofs.Numbers.{bytes-append, bytes-part, length-bigEndian, i
 use Rattle.octets.proofs.Places.{part-length, whole-bytes}
 use Rattle.rules.specs.Command.{isCode, isCount, every}
 use Rattle.rules.specs.Message.{decimal}
-use Rattle.field_tests.specs.Place.{sixDigits, wordAt}
+use Rattle.frame_fields.specs.Place.{sixDigits, wordAt}
 use Rattle.frame.specs.Field.{Field, Code, UpTo, Second, Free, Items, Never, rowSize, width, may, Value, rowFits, fits, digits, rowsBytes, bytesOf, valueOf, areFields, Values, allFit, allBytes, allValues}
 use Rattle.frame.proofs.Digits.{digits-bytes, length-digits, digits-digits, decimal-digits, digits-decimal, decimal-below, six-digits}
 use Rattle.frame.proofs.Rows.{is-bytes, bytes-are, isBytes-drop, plain-bytes, plain-back, plain-fits, plain-there, rows-bytes, rows-back, rows-length, rows-fits, rows-there}

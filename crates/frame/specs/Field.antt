@@ -9,7 +9,7 @@ use lib.Dec.{leb, ltb, eqb}
 use Rattle.octets.specs.Octets.{bigEndian, number, isBytes, signed, isMoney, money, part}
 use Rattle.rules.specs.Command.{isCode, isCount, every}
 use Rattle.rules.specs.Message.{decimal}
-use Rattle.field_tests.specs.Place.{sixDigits, wordAt}
+use Rattle.frame_fields.specs.Place.{sixDigits, wordAt}
 
 -- a field that takes any bytes
 pub data Plain : Type 0 where

@@ -4,10 +4,10 @@ ghost use mathlib.Core.Bool.{cond};
 ghost use mathlib.Core.List.{[]};
 ghost use lib.ListN.{length};
 ghost use Rattle.frame.specs.Frame.{isFrame};
-use field_tests::at;
-use field_tests::is_code_at;
-use field_tests::rows_at;
-use field_tests::second_at;
+use frame_fields::at;
+use frame_fields::is_code_at;
+use frame_fields::rows_at;
+use frame_fields::second_at;
 use rules::is_method;
 
 // Byte 0 is the kind. It chooses the fields behind it and, with them, the length.

@@ -18,7 +18,7 @@ use Rattle.frame.specs.Filled.{Filled}
 use Rattle.frame.proofs.Layouts.{frame-length}
 use Rattle.frame.proofs.Lines.{unhex-bytes, hex-unhex}
 use Rattle.frame.proofs.OneToOneProof.{carries, carried}
-use Rattle.reader.proofs.Reader.{unhex-length}
+use Rattle.frame_reader.proofs.Reader.{unhex-length}
 use Rattle.hex_writer.proofs.Laws.{hex-length}
 use Rattle.command.specs.declared.Order.{Order}
 use Rattle.command.specs.View.{ordered}

@@ -11,8 +11,8 @@ use lib.Dec.{eqb}
 use borrow.Author.Tests.{ne-eqb}
 use Rattle.frame.specs.Hex.{hex, allHex, unhex}
 use Rattle.frame.specs.Frame.{isFrame, lineFrame}
-use Rattle.reader.proofs.Reader.{long}
-use Rattle.text.specs.Text.{push, wholeLines}
+use Rattle.frame_reader.proofs.Reader.{long}
+use Rattle.lines.specs.Text.{push, wholeLines}
 use Rattle.frame_echo.specs.Printed.{echoed, grown, begun, printed, last}
 use Rattle.frame_echo.specs.Lines.{echoes, LinesEchoed}
 use Rattle.frame_echo.proofs.Laws.{frame-digits}

@@ -2,7 +2,7 @@
 use mathlib.Core.Path.{_≡_}
 use mathlib.Core.List.{List, [], _∷_, _++_}
 use Prim.Native.Nat.{ℕ}
-use Rattle.text.specs.Text.{wholeLines}
+use Rattle.lines.specs.Text.{wholeLines}
 use Rattle.frame_echo.specs.Printed.{echoed, begun, printed, last}
 
 unfoldable pub echoes : List (List ℕ) → List ℕ

@@ -9,19 +9,19 @@ ghost use Rattle.frame.specs.Frame.{readFrame};
 ghost use Rattle.frame.specs.Filled.{Filled};
 ghost use Rattle.frame_echo.specs.Printed.{echoed, last, EchoIs};
 use command::parse;
+use frame_reader::nomiluvar_read_frame;
+use frame_writer::write_frame;
 use hex_writer::put_hex;
 use libc::STDERR_FILENO;
 use libc::STDIN_FILENO;
 use libc::STDOUT_FILENO;
-use reader::read_frame;
-use writer::write_frame;
 
 // The command of a line's frame, written again: by the round trip this is what the reader itself gives.
 fn rewrite(line: &[u8], frame: &mut [u8]) -> usize
     ensures { λ r. ⌜ Filled (readFrame (now (line .entry)) (length (now (frame .entry)))) (now (frame .entry)) (now (frame .exit)) r ⌝ }
 {
     let mut read = [0u8; 352];
-    let n = read_frame(line, &mut read);
+    let n = nomiluvar_read_frame(line, &mut read);
     let order = parse(&read[..n]);
     write_frame(order, frame)
 }

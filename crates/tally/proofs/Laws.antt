@@ -12,16 +12,16 @@ use borrow.Author.Tests.{eq-eqb, eqb-true}
 use Rattle.octets.specs.Octets.{write}
 use Rattle.octets.proofs.Places.{write-is, write-length}
 use Rattle.rules.specs.Machine.{empty}
-use Rattle.promise.specs.declared.Ledger.{Ledger}
-use Rattle.promise.specs.Promise.{SoundLedger}
-use Rattle.promise.specs.View.{ledgerView}
-use Rattle.text.specs.Text.{answerRoom}
-use Rattle.kept_text.specs.Kept.{lastEnd}
-use Rattle.feed.specs.declared.Fed.{Fed}
-use Rattle.feed.specs.Feed.{FedIs}
-use Rattle.feed.specs.Reads as Fed
-use Rattle.feed.specs.Reads.{begun, Reads, start, next}
-use Rattle.feed.proofs.Theorem.{input-answered, same-end, none-left}
+use Rattle.ledger.specs.declared.Ledger.{Ledger}
+use Rattle.ledger.specs.Promise.{SoundLedger}
+use Rattle.ledger.specs.View.{ledgerView}
+use Rattle.lines.specs.Text.{answerRoom}
+use Rattle.tally_kept.specs.Kept.{lastEnd}
+use Rattle.tally_feed.specs.declared.Fed.{Fed}
+use Rattle.tally_feed.specs.Feed.{FedIs}
+use Rattle.tally_feed.specs.Reads as Fed
+use Rattle.tally_feed.specs.Reads.{begun, Reads, start, next}
+use Rattle.tally_feed.proofs.Theorem.{input-answered, same-end, none-left}
 use Rattle.tally.specs.declared.progress.Progress.{Progress}
 use Rattle.tally.specs.Progress.{started, written, broken, Ready, PlayedIs, Over}
 use Rattle.tally.specs.ReadOn.{Rests, ReadOnIs, stays, ends, reads, fails, none}

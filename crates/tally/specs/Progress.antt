@@ -7,11 +7,11 @@ use Prim.Native.Nat.{ℕ, _+_, _≤_}
 use lib.ListN.{length, take, drop}
 use Rattle.rules.specs.Machine.{empty}
 use Rattle.table.specs.declared.Table.{Table}
-use Rattle.kept_text.specs.Kept.{lastEnd}
-use Rattle.feed.specs.declared.Fed.{Fed}
-use Rattle.feed.specs.Feed.{FedIs}
-use Rattle.feed.specs.Reads as Fed
-use Rattle.feed.specs.Reads.{begun, inputLines, Answered}
+use Rattle.tally_kept.specs.Kept.{lastEnd}
+use Rattle.tally_feed.specs.declared.Fed.{Fed}
+use Rattle.tally_feed.specs.Feed.{FedIs}
+use Rattle.tally_feed.specs.Reads as Fed
+use Rattle.tally_feed.specs.Reads.{begun, inputLines, Answered}
 use Rattle.tally.specs.declared.progress.Progress.{Progress}
 use Rattle.tally.specs.declared.progress.Finished.{Finished}
 

@@ -8,7 +8,7 @@ use lib.IntN.{pos}
 use lib.Signed.{ltZ}
 use lib.ListN.{length, take, drop}
 use Rattle.io.specs.Counts.{clamped}
-use Rattle.kept_text.specs.Kept.{lastEnd}
+use Rattle.tally_kept.specs.Kept.{lastEnd}
 use Rattle.tally.specs.declared.progress.Progress.{Progress}
 use Rattle.tally.specs.declared.progress.Got.{Got}
 use Rattle.tally.specs.Progress.{broken, done}

@@ -15,7 +15,7 @@ use progress::read_on;
 fn serve() -> Finished
     ensures { λ r. ⌜ Served r ⌝ }
 {
-    let fresh = promise::fresh();
+    let fresh = ledger::fresh();
     let table = fresh.table;
     let book = fresh.book;
     let mut ids = book.ids;

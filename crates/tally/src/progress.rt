@@ -5,16 +5,16 @@ ghost use mathlib.Core.Bool.{cond};
 ghost use mathlib.Core.Logic.{_⊎_};
 ghost use Prim.Native.Nat.{_<_, _≤_};
 ghost use lib.ListN.{length};
-ghost use Rattle.text.specs.Text.{answerRoom};
+ghost use Rattle.lines.specs.Text.{answerRoom};
 ghost use Rattle.tally.specs.Progress.{started, written, broken, ended, Ready, PlayedIs, Given, Waiting, Over};
 ghost use Rattle.tally.specs.ReadOn.{ReadIs, Rests, ReadOnIs};
-use feed::Fed;
-use feed::feed;
-use kept_text::end_line;
 use libc::STDERR_FILENO;
 use libc::STDIN_FILENO;
 use libc::STDOUT_FILENO;
 use table::Table;
+use tally_feed::Fed;
+use tally_feed::feed;
+use tally_kept::end_line;
 
 // What `feed` gave last; how many bytes were read behind what it left; whether the input has ended; whether there is nothing left to do; whether a read or a write
 // failed; how many reads may still be made.

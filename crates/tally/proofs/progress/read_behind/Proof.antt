@@ -12,7 +12,7 @@ use mir.Syntax.{w64}
 use mir.Val.{toZ, ofZ}
 use Rattle.io.specs.Counts.{clamped}
 use Rattle.octets.proofs.Places.{write-length}
-use Rattle.kept_text.specs.Kept.{lastEnd}
+use Rattle.tally_kept.specs.Kept.{lastEnd}
 use Rattle.tally.proofs.Laws.{at-most, front-stays, written-before, written-there, last-within}
 use Rattle.tally.proofs.progress.read_behind.Statement.{statement}
 use Rattle.tally.proofs.progress.read_behind.Tie as tie

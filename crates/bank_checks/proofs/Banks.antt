@@ -1,0 +1,115 @@
+-- A call on a bank's account, kinds 03, 04 and 05: what its first checks say, and the account stored anew. Assumes nothing.
+use mathlib.Core.Path.{_≡_, refl, sym, ap, ap₂, _∙_, subst}
+use mathlib.Core.Bool.{Bool, true, false, not, cond, _&&_}
+use Prim.Native.Nat.{ℕ, _≤_, _<_, _^_}
+use native.Mathlib.Omega.{arith}
+use borrow.Author.Tests.{le-leb}
+use mir.Syntax.{w64}
+use mir.Val.{SFits}
+use lib.Dec.{T, ltb, ltb→lt}
+use lib.IntN.{ℤ, pos, negsuc}
+use lib.Signed.{leZ, nonNeg}
+use lib.ListN.{length, take, drop, getD, set}
+use Rattle.amount.specs.Amount.{isLimit}
+use Rattle.octets.specs.Octets.{isMoney}
+use Rattle.octets.proofs.Numbers.{fits-money}
+use Rattle.rules.specs.Account as Rule
+use Rattle.rules.specs.Account.{Turnovers, isBank, codes, known, at, adjust}
+use Rattle.rules.specs.Command.{Command, wellFormed}
+use Rattle.rules.specs.Machine.{checks, effect, answer, firstFailure, withAccounts}
+use Rattle.rules.proofs.Checks.{numbered, passed, early, late}
+use Rattle.rules.proofs.Owners.{Tame}
+use Rattle.account.specs.declared.Account.{Account}
+use Rattle.account.specs.View.{toAccount, Light}
+use Rattle.table.specs.declared.Table.{Table}
+use Rattle.table.specs.View.{accountsOf, machineOf, placeOf}
+use Rattle.table.specs.Promise.{Good, call, Called}
+use Rattle.table.proofs.Found.{place-is, place-known, account-at}
+use Rattle.table.proofs.Stored.{stored-none, stored-with, stored-called}
+use Rattle.bank_checks.specs.Parts.{bankChecks}
+use Rattle.table.specs.Promise.{Slot}
+
+-- what the answer a of the first checks says of the command k, which names the code c: j is the place where its account was looked for
+pub record Screened (t : Table) (k : Command) (c j : ℕ) (inRange : Bool) (a : ℕ) : Type 0 where
+  pub declines : ¬ (a ≡ 0) → a ≡ answer (machineOf t) (call k)
+  pub ranges : a ≡ 0 → T inRange
+  pub place : a ≡ 0 → j ≡ placeOf c (codes (accountsOf t))
+  pub below : a ≡ 0 → j < t .count
+  -- the checks that are left
+  pub rest : a ≡ 0 → firstFailure (drop 4 (checks (machineOf t) 0 k)) ≡ answer (machineOf t) (call k)
+
+-- the commands that begin with these checks
+abbrev pub Begins : Table → Command → ℕ → Bool → Type 0
+Begins t k c inRange = take 4 (checks (machineOf t) 0 k) ≡ bankChecks (wellFormed k) (known c (accountsOf t)) (isBank (at c (accountsOf t))) inRange
+
+pub refuses : (b : Bool) (x y : ℕ) → cond (not b) x y ≡ cond b y x
+refuses true x y = refl
+refuses false x y = refl
+
+from-zero : (v : ℤ) → leZ (pos 0) v ≡ nonNeg v
+from-zero (pos n) = le-leb 0 n (omega arith)
+from-zero (negsuc n) = refl
+
+-- the ranges of a bank's limits l and p, as they are tested
+pub limits-tested : (l p y z : ℤ) (a b : Bool) → y ≡ l → z ≡ p → a ≡ isLimit y → b ≡ isLimit z → (leZ (pos 0) y && a && b) ≡ (nonNeg l && isLimit l && isLimit p)
+limits-tested l p y z a b ey ez ea eb = rw (ea, eb, ey, ez, from-zero l)
+
+-- an amount in an i64 is well-formed
+pub and-money : (b : Bool) (a : ℤ) → SFits w64 a → b ≡ (b && isMoney a)
+and-money true a h = sym (fits-money a h)
+and-money false a h = refl
+
+light-kept : (b : ℕ) (x y : Rule.Account) → y .turnovers ≡ x .turnovers → Light b x → Light b y
+light-kept b x y e l = record {
+  icdt-light = subst (λ (u : Turnovers). u .icdt ≤ b) (sym e) (l .icdt-light);
+  rcdt-light = subst (λ (u : Turnovers). u .rcdt ≤ b) (sym e) (l .rcdt-light);
+  iddt-light = subst (λ (u : Turnovers). u .iddt ≤ b) (sym e) (l .iddt-light);
+  rddt-light = subst (λ (u : Turnovers). u .rddt ≤ b) (sym e) (l .rddt-light);
+}
+
+module _ (t : Table) (g : Good t) (long : length (t .accounts) ≡ 64) where
+  slot-same : (i j : ℕ) → Slot i j → i < t .count → j ≡ i
+  slot-same i j s h = s .same (omega (arith, g .within))
+
+  -- known, and then a bank's: an account that was not found is not looked at
+  pub bank-named : (c i j : ℕ) → i ≡ placeOf c (take (t .count) (t .codes)) → Slot i j → (d : Account) (rest : ℕ)
+      → cond (ltb i (t .count)) (cond (isBank (toAccount (getD (t .accounts) j d))) rest 5) 4 ≡ cond (known c (accountsOf t)) (cond (isBank (at c (accountsOf t))) rest 5) 4
+  bank-named c i j e s d rest = go (ltb i (t .count)) refl ∙ ap (λ b. cond b (cond (isBank (at c (accountsOf t))) rest 5) 4) (place-known t g long c i e)
+    where
+      go : (b : Bool) → ltb i (t .count) ≡ b → cond b (cond (isBank (toAccount (getD (t .accounts) j d))) rest 5) 4 ≡ cond b (cond (isBank (at c (accountsOf t))) rest 5) 4
+      go true h =
+          let below : i < t .count = ltb→lt i (t .count) (subst T (sym h) tt) in
+          let q : j ≡ i = slot-same i j s below in
+          ap (λ x. cond (isBank x) rest 5) (account-at t g long c j d (q ∙ place-is t g c i e) (subst (λ n. n < t .count) (sym q) below))
+      go false h = refl
+
+  pub screened : (k : Command) (c i j : ℕ) → i ≡ placeOf c (take (t .count) (t .codes)) → Slot i j → (d : Account) (formed tested inRange : Bool) → formed ≡ wellFormed k → Begins t k c inRange
+      → (a : ℕ) → a ≡ firstFailure (bankChecks formed (ltb i (t .count)) (isBank (toAccount (getD (t .accounts) j d))) tested) → tested ≡ inRange → Screened t k c j inRange a
+  unfolding answer call bankChecks firstFailure
+  screened k c i j e s d f q r ef b a ea eq = record {
+    declines = early 4 (checks (machineOf t) 0 k) a whole;
+    ranges = λ z. subst T eq (passed 6 (bankChecks f (ltb i (t .count)) own q) tt (sym ea ∙ z));
+    place = λ z. same z ∙ place-is t g c i e;
+    below = λ z. subst (λ n. n < t .count) (sym (same z)) (in-table z);
+    rest = λ z. late 4 (checks (machineOf t) 0 k) (subst (λ cs. T (numbered cs)) (sym b) tt) (sym whole ∙ z);
+  }
+    where
+      own : Bool
+      own = isBank (toAccount (getD (t .accounts) j d))
+
+      in-table : a ≡ 0 → i < t .count
+      in-table z = ltb→lt i (t .count) (passed 4 (bankChecks f (ltb i (t .count)) own q) tt (sym ea ∙ z))
+
+      same : a ≡ 0 → j ≡ i
+      same z = slot-same i j s (in-table z)
+
+      whole : a ≡ firstFailure (take 4 (checks (machineOf t) 0 k))
+      whole = ea ∙ ap₂ (λ f n. cond f n 1) ef (bank-named c i j e s d (cond q 0 6)) ∙ ap (λ q. firstFailure (bankChecks (wellFormed k) (known c (accountsOf t)) (isBank (at c (accountsOf t))) q)) eq ∙ ap firstFailure (sym b)
+
+  -- an account changed at its place, its turnovers as they were
+  pub changed : (k : Command) (c j : ℕ) (d : Account) → j ≡ placeOf c (codes (accountsOf t)) → j < t .count → (f : Rule.Account → Rule.Account) → Tame f → ((x : Rule.Account) → (f x) .turnovers ≡ x .turnovers)
+      → (y : Account) → toAccount y ≡ f (toAccount (getD (t .accounts) j d)) → answer (machineOf t) (call k) ≡ 0 → withAccounts (adjust c f (accountsOf t)) (machineOf t) ≡ effect (machineOf t) k
+      → Called k t (record { answer = 0; table = record { codes = t .codes; accounts = set (t .accounts) j y; count = t .count; day = t .day } })
+  changed k c j d e h f tame kept y q z w =
+      stored-called t g k (set (t .accounts) j y) (10 ^ 17) (adjust c f (accountsOf t))
+      (stored-with t g (stored-none t g long) c j d e h f y tame (λ x l. light-kept (10 ^ 17) x (f x) (kept x) l) q) z w

@@ -1,0 +1,146 @@
+// Kind 07 as a whole call: the number of the first check that fails with the very same table and book, or 0 with the limits set and the message's id in the
+// book. And in two parts: the checks, which take the table and do not give it back, and the items set one by one, for who owns the table.
+ghost use mathlib.Core.Path.{_≡_};
+ghost use Rattle.rules.specs.Command.{Change};
+ghost use Rattle.command.specs.View.{toHeader, itemsFrom};
+ghost use Rattle.table.specs.Promise.{Slot};
+ghost use Rattle.ledger.specs.Promise.{Sound, Settled};
+ghost use Rattle.call_change.specs.Plan.{Judged, Touched};
+use account::Account;
+use account::Limit;
+use account::is_bank;
+use account::touched;
+use book::add_id;
+use command::Header;
+use command::is_header;
+use ledger::Noted;
+use message_branches::branches_of;
+use message_checks::header_checks;
+use message_checks::named_checks;
+use message_item_checks::test_items;
+use message_items::Item;
+use message_items::records;
+use message_limits::set_items;
+use rules::is_count;
+use table::Table;
+use table::place;
+use table::slot;
+
+// What a change answers, how many places of the book are used, and the items that are to be set, with the message's moment: none where it is refused.
+pub struct Plan {
+    pub answer: u64,
+    pub used: usize,
+    pub count: usize,
+    pub day: u32,
+    pub second: u32,
+    pub items: [Item; 16],
+}
+
+// A refusal.
+fn declined(answer: u64, used: usize, header: Header, items: [Item; 16]) -> Plan
+    ensures { λ r. ⌜ r ≡ record { answer = answer; used = used; count = 0; day = header .day; second = header .second; items = items } ⌝ }
+{
+    Plan {
+        answer: answer,
+        used: used,
+        count: 0,
+        day: header.day,
+        second: header.second,
+        items: items,
+    }
+}
+
+// The checks in order. The items are looked at only once the header has passed: then there are at most 16. What the message finds of the accounts is made once,
+// so that the table is not copied for each check. Where all pass, the message's id joins the book.
+pub fn judge(
+    t: Table,
+    ids: &mut [u8; 32768],
+    days: &mut [u32; 1024],
+    used: usize,
+    header: Header,
+    id: [u8; 32],
+    accounts: [u8; 160],
+    types: [u8; 16],
+    values: [i64; 16],
+    n: usize,
+) -> Plan
+    requires { ⌜ Sound t (now ids) (now days) used ⌝ }
+    ensures { λ r. ⌜ Judged header id (itemsFrom 0 n accounts types values) n t (now (ids .entry)) (now (days .entry)) used r (now (ids .exit)) (now (days .exit)) ⌝ }
+{
+    let sender = header.sender;
+    let count = t.count;
+    let i = place(&t.codes, count, sender);
+    let j = slot(i);
+    let x = t.accounts[j];
+    let b = branches_of(t, sender, header.day, header.second);
+    let head = is_bank(x) & b.any;
+    let formed = is_header(header) & is_count(n);
+    let a = header_checks(formed, i < count, head, t.day, ids, used, header, &id);
+    if a != 0 {
+        let none = records(&t.codes, count, accounts, types, values, 0);
+        return declined(a, used, header, none);
+    }
+    let items = records(&t.codes, count, accounts, types, values, n);
+    let f = test_items(b, items, n);
+    let r = named_checks(f, used);
+    if r != 0 {
+        return declined(r, used, header, items);
+    }
+    add_id(ids, days, used, &id, t.day);
+    let more = used + 1;
+    Plan {
+        answer: 0,
+        used: more,
+        count: n,
+        day: header.day,
+        second: header.second,
+        items: items,
+    }
+}
+
+// The place of an item's account, as a place of the array.
+pub fn item_slot(item: Item) -> usize
+    ensures { λ r. ⌜ Slot (item .place) r ⌝ }
+{
+    slot(item.place as usize)
+}
+
+// An account with an item's limit set, and the message's moment put on it.
+pub fn set_item(x: Account, item: Item, day: u32, second: u32) -> Account
+    ensures { λ r. ⌜ Touched (record { day = day; second = second }) item x r ⌝ }
+{
+    let limit = Limit::Value(item.value);
+    touched(x, item.kind, limit, day, second)
+}
+
+// The whole call.
+pub fn change(
+    t: Table,
+    ids: &mut [u8; 32768],
+    days: &mut [u32; 1024],
+    used: usize,
+    header: Header,
+    id: [u8; 32],
+    accounts: [u8; 160],
+    types: [u8; 16],
+    values: [i64; 16],
+    n: usize,
+) -> Noted
+    requires { ⌜ Sound t (now ids) (now days) used ⌝ }
+    ensures { λ r. ⌜ Settled (Change (toHeader header id) (itemsFrom 0 n accounts types values)) t (now (ids .entry)) (now (days .entry)) used r (now (ids .exit)) (now (days .exit)) ⌝ }
+{
+    let p = judge(t, ids, days, used, header, id, accounts, types, values, n);
+    if p.answer != 0 {
+        return Noted {
+            answer: p.answer,
+            table: t,
+            used: used,
+        };
+    }
+    let u = set_items(t, accounts, types, values, n, header);
+    Noted {
+        answer: 0,
+        table: u,
+        used: p.used,
+    }
+}

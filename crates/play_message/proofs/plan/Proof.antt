@@ -1,0 +1,44 @@
+use mathlib.Core.Path.{_≡_, sym, _∙_}
+use native.Mathlib.Omega.{arith}
+use lib.ListN.{length}
+use Rattle.command.specs.View.{toCommands}
+use Rattle.command.proofs.ByKind.{ordered-is}
+use Rattle.command.proofs.Forms.{items-length}
+use Rattle.table.proofs.Places.{length-mapped}
+use Rattle.call_change.proofs.Laws.{planned}
+use Rattle.play_message.proofs.Held.{change-held}
+use borrow.Author.Needs.{needs}
+use Rattle.play_message.proofs.plan.Statement.{statement}
+use Rattle.play_message.proofs.plan.Tie as tie
+
+long : (s : tie.Start) → length (s .args .t1 .accounts) ≡ 64
+long s = search (needs, length-mapped)
+
+parse-requires : tie.Need-parse-requires
+parse-requires c κs = search needs
+
+enum-known-command : tie.Need-enum-known-command
+enum-known-command c = search needs
+
+judge-requires : tie.Need-judge-requires
+judge-requires c κs = c .before .before .before .before .before .before .before .before .before .before .before .pre .2
+
+records-requires : tie.Need-records-requires
+records-requires c κs = (omega arith, omega arith, search needs)
+
+returns : tie.Need-returns
+unfolding toCommands
+returns c =
+    let p = c .before .before .before .before .before .before .before .before .before .before .parse in
+    let s = c .before .before .before .before .before .before .before .before .before .before .before .before in
+    rw (sym (p .ensures) ∙ ordered-is (p .result) _ (c .before .before .before .before .command .given .1))
+    (planned _ _ _ _ _ _ _ _ (c .judge .result) _ _ (c .judge .ensures) (s .pre .2) (long s) (items-length _ _ _ 0 _))
+
+returns-2 : tie.Need-returns-2
+returns-2 c =
+    let s = c .before .before .before .before .before .before .before .before .before .before in
+    let p = c .before .before .before .before .before .before .before .before .parse in
+    absurd (change-held (s .args .frame .now) (p .result) (s .pre .0) (s .pre .1) (p .ensures) (c .before .before .before .match .keys2))
+
+pub plan-spec : {M : Type 1} → statement M
+plan-spec = tie.close (tie.spec parse-requires enum-known-command judge-requires records-requires returns returns-2)
