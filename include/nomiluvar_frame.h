@@ -1,4 +1,10 @@
-/* Nomiluvar: the frame reader, for a shell written in C. Link with libreader.a. */
+/*
+ * Nomiluvar: the frame reader, for a shell written in C on x86-64 Linux.
+ *
+ * `rt staticlib frame_reader` proves the reader and writes target/staticlib/libframe_reader.a; link with that archive. It needs
+ * memcpy and memset, at link time and at run time, and nothing else: no other library, no heap, no file and no call
+ * of the system. A call takes about 530 bytes of stack, and what memcpy and memset take.
+ */
 #ifndef NOMILUVAR_FRAME_H
 #define NOMILUVAR_FRAME_H
 
@@ -13,7 +19,7 @@ extern "C" {
 #define NOMILUVAR_FRAME_ROOM 352
 
 /*
- * Reads one line as a frame.
+ * Reads one line as a frame. docs/FORMAT.md says which lines are frames.
  *
  * line, line_len    the line's bytes, lowercase hexadecimal digits, two for each byte of the frame, without the byte 0a
  *                   that ends the line. Any bytes and any length may be handed over. The line is only read.
@@ -27,10 +33,11 @@ extern "C" {
  * kind's, a code that is not six digits, a method over 3, a second over 86,399, a payment byte over 1, a count that is
  * not 1 to 16, and a buffer of fewer than NOMILUVAR_FRAME_ROOM bytes, 0 included.
  *
- * All that the caller has to see to is that both buffers are valid, of the lengths given, and do not overlap. Nothing is
- * kept between calls, so calls on different buffers may run at the same time.
+ * The caller sees to it that both buffers are valid, of the lengths given, and do not overlap. A buffer of length 0 is
+ * neither read nor written, so its pointer may be NULL. Nothing is kept between calls: calls on different buffers may run
+ * in different threads at the same time, and calls that only share a line may too.
  */
-size_t read_frame(const uint8_t *line, size_t line_len, uint8_t *frame, size_t frame_len);
+size_t nomiluvar_read_frame(const uint8_t *line, size_t line_len, uint8_t *frame, size_t frame_len);
 
 #ifdef __cplusplus
 }

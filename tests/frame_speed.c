@@ -109,7 +109,7 @@ int main(void)
         double start = seconds();
         for (int turn = 0; turn < TURNS; turn++)
             for (int l = 0; l < LINES; l++)
-                wrong += read_frame(digits[l], lengths[l], frame, ROOM) != frame_lengths[l];
+                wrong += nomiluvar_read_frame(digits[l], lengths[l], frame, ROOM) != frame_lengths[l];
         double rate = (double)TURNS * LINES / (seconds() - start);
         if (rate > best)
             best = rate;

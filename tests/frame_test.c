@@ -194,7 +194,7 @@ static int same(const uint8_t *line, size_t digits, size_t room, const uint8_t *
     for (int turn = 0; turn < 2; turn++) {
         for (size_t i = 0; i < sizeof all; i++)
             all[i] = pattern(i, turn);
-        if (read_frame(line, digits, frame, room) != length || memcmp(frame, want, length))
+        if (nomiluvar_read_frame(line, digits, frame, room) != length || memcmp(frame, want, length))
             return 0;
         for (size_t i = 0; i < sizeof all; i++)
             if ((i < GUARD || i >= GUARD + length) && all[i] != pattern(i, turn))
@@ -203,14 +203,17 @@ static int same(const uint8_t *line, size_t digits, size_t room, const uint8_t *
     return 1;
 }
 
+static void tell(const char *name, size_t digits, size_t room, int as_wanted)
+{
+    if (as_wanted)
+        passed++;
+    else if (failed++ < 20)
+        printf("failed: %s, %zu digits, buffer of %zu bytes\n", name, digits, room);
+}
+
 static void check(const char *name, const uint8_t *line, size_t digits, size_t room, const uint8_t *want, size_t length)
 {
-    if (same(line, digits, room, want, length)) {
-        passed++;
-        return;
-    }
-    if (failed++ < 20)
-        printf("failed: %s, %zu digits, buffer of %zu bytes\n", name, digits, room);
+    tell(name, digits, room, same(line, digits, room, want, length));
 }
 
 static void compare(const char *name, const uint8_t *line, size_t digits)
@@ -315,6 +318,19 @@ static void counts(void)
         }
 }
 
+/* A buffer of length 0 may have no place at all. */
+static void no_buffer(void)
+{
+    uint8_t want[ROOM] = {0};
+    check("NULL for the line", NULL, 0, ROOM, want, 0);
+    check("NULL for the line, a large buffer", NULL, 0, LARGEST, want, 0);
+    for (int g = 0; g < GOODS; g++) {
+        const uint8_t *line = (const uint8_t *)good[g].digits;
+        tell("NULL for the buffer", strlen(good[g].digits), 0, nomiluvar_read_frame(line, strlen(good[g].digits), NULL, 0) == 0);
+    }
+    tell("NULL for both", 0, 0, nomiluvar_read_frame(NULL, 0, NULL, 0) == 0);
+}
+
 /* Lines that are longer than any frame, of digits and of every byte. */
 static void long_lines(void)
 {
@@ -343,6 +359,7 @@ int main(void)
     digits_changed();
     bytes_changed();
     counts();
+    no_buffer();
     long_lines();
     printf("%lu passed, %lu failed\n", passed, failed);
     return failed != 0;
