@@ -58,8 +58,8 @@ pub record Closed (bytes : List ℕ) : Type 0 where
   pub input : List ℕ
   pub is : bytes ≡ input ++ lastEnd (length (begun input))
 
--- the record and what stands in front of the buffer are what reads from the fresh record on left, no answer waits to be written, and n bytes were read behind them; once the input has
--- ended, they close it
+-- the record and what stands in front of the buffer are what reads from the fresh record on left, no answer waits to be written, and n bytes were read behind
+-- them; once the input has ended, they close it
 pub record Ready (p : Progress) (ids days buf : List ℕ) : Type 0 where
   pub fed : Fed.Ready empty (p .fed) ids days buf
   pub within : p .fed .left + p .n ≤ length buf
