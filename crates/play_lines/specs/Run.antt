@@ -14,7 +14,8 @@ use Rattle.play_lines.specs.declared.Ran.{Ran}
 use Rattle.play_lines.specs.Lines.{played, printedLines, fitting, overwritten, bookIds, bookDays}
 
 -- lines were played from the machine m on: with their ends they are what was read; they are the text's first whole lines, and the others are behind
--- them; the record is the machine after them, and so is each byte of the lent book; their answer lines are written over the buffer from byte 0 on, and its other bytes stay
+-- them; the record is the machine after them, and so is each byte of the lent book; their answer lines are written over the buffer from byte 0 on, and its
+-- other bytes stay
 pub record Passed (m : Machine) (ids₀ days₀ input out : List ℕ) (t : Table) (ids days : List ℕ) (used read written : ℕ) (out′ : List ℕ) : Type 0 where
   pub lines : List (List ℕ)
   pub sound : Sound t ids days used

@@ -25,8 +25,8 @@ begun text = drop (length (joined (wholeLines text))) text
 unfoldable pub inputLines : List ℕ → List (List ℕ)
 inputLines input = wholeLines (input ++ lastEnd (length (begun input)))
 
--- calls of `feed` from a sound record on that views as the machine m, as what `fresh` gives does as `empty`. At each, the text lent is what the one before it left, and bytes of the input behind it, or none. Said of the
--- record, of what is left, of all bytes of the input, and of the answer bytes of all calls
+-- calls of `feed` from a sound record on that views as the machine m, as what `fresh` gives does as `empty`. At each, the text lent is what the one before it
+-- left, and bytes of the input behind it, or none. Said of the record, of what is left, of all bytes of the input, and of the answer bytes of all calls
 pub data Reads (m : Machine) : Table → List ℕ → List ℕ → ℕ → List ℕ → List ℕ → List ℕ → Type 0 where
   start : {l : Ledger} → SoundLedger l → ledgerView l ≡ m → Reads m (l .table) (l .book .ids) (l .book .days) (l .book .used) [] [] []
   next : {s : Fed} {ids days left input answers buf out ids′ days′ buf′ out′ : List ℕ} {n : ℕ} {r : Fed}
