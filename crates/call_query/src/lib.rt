@@ -69,7 +69,8 @@ fn any_known(codes: &[u32; 64], count: usize, accounts: &[u8], n: usize) -> bool
 
 // ---- the call
 
-// A refused query writes nothing; an accepted one writes its report and puts its id into the book.
+// A refused query writes nothing; an accepted one writes its report and puts its id into the book. The codes are copied out: an array lent out of the
+// table would have the whole table copied.
 pub fn query(
     t: Table,
     ids: &mut [u8; 32768],
@@ -85,9 +86,10 @@ pub fn query(
     ensures { λ r. ⌜ Played (Query (toHeader header id) (idsFrom 0 n accounts) ∷ []) t (now (ids .entry)) (now (days .entry)) used (now (report .entry)) (record { answer = r .answer; table = t; used = r .used; «report_len» = r .«report_len» }) (now (ids .exit)) (now (days .exit)) (now (report .exit)) ⌝ }
 {
     let sender = header.sender;
+    let codes = t.codes;
     let count = t.count;
     let formed = is_header(header) & is_count(n) & (913 <= report.len());
-    let known = place(&t.codes, count, sender) < count;
+    let known = place(&codes, count, sender) < count;
     let listed = has_id(ids, used, &id);
     let a = header_answer(formed, known, listed, &id, t.day, header.day);
     if a != 0 {
@@ -97,7 +99,7 @@ pub fn query(
             report_len: 0,
         };
     }
-    let any = any_known(&t.codes, count, &accounts, n);
+    let any = any_known(&codes, count, &accounts, n);
     let b = first(any, 21, first(used < 1024, 22, 0));
     if b != 0 {
         return Asked {

@@ -40,15 +40,15 @@ abbrev asked : tie.Start → Rule.Command
 asked s = Query (head s) (rows s)
 
 abbrev seen : tie.Start → Machine
-seen s = viewOf (s .args .t1) (s .args .ids .now) (s .args .days .now) (s .args .used)
+seen s = viewOf (s .args .t) (s .args .ids .now) (s .args .days .now) (s .args .used)
 
 abbrev right : tie.Start → ℕ
 right s = answer (seen s) (lent (length (s .args .report .now)) (asked s))
 
-accounts-long : (s : tie.Start) → length (s .args .t1 .accounts) ≡ 64
+accounts-long : (s : tie.Start) → length (s .args .t .accounts) ≡ 64
 accounts-long s = search (needs, length-mapped)
 
-codes-long : (s : tie.Start) → length (s .args .t1 .codes) ≡ 64
+codes-long : (s : tie.Start) → length (s .args .t .codes) ≡ 64
 codes-long s = search needs
 
 id-long : (s : tie.Start) → length (s .args .t6) ≡ 32
@@ -57,8 +57,8 @@ id-long s = search needs
 rows-long : (s : tie.Start) → length (s .args .t7) ≡ 160
 rows-long s = search needs
 
-good : (s : tie.Start) → Good (s .args .t1)
-good s = good-table (s .args .t1) (s .args .ids .now) (s .args .days .now) (s .args .used) (s .pre)
+good : (s : tie.Start) → Good (s .args .t)
+good s = good-table (s .args .t) (s .args .ids .now) (s .args .days .now) (s .args .used) (s .pre)
 
 formed : (s : tie.Start) → wellFormed (asked s) ≡ ((isCode (s .args .header .sender) && leb (s .args .header .second) 86399) && isCount (s .args .n))
 formed s =
@@ -77,23 +77,23 @@ answered c =
     let s = entry c in
     let p = c .before .before .before .before .before .before .place in
     c .header-answer .ensures
-    ∙ early-checks (head s) (rows s) (s .args .t1) (s .args .ids .now) (s .args .days .now) (s .args .used) (s .args .report .now) (s .pre) _ _ _
+    ∙ early-checks (head s) (rows s) (s .args .t) (s .args .ids .now) (s .args .days .now) (s .args .used) (s .args .report .now) (s .pre) _ _ _
     (ap (λ (b : Bool). b && leb 913 (length (s .args .report .now)))
-    (ap₂ _&&_ (c .before .before .before .before .before .before .before .before .before .before .is-header .ensures) (c .before .before .before .before .before .before .before .before .before .is-count .ensures) ∙ sym (formed s)))
-    (place-known (s .args .t1) (good s) (accounts-long s) (s .args .header .sender) (p .result) (p .ensures))
+    (ap₂ _&&_ (c .before .before .before .before .before .before .before .before .before .is-header .ensures) (c .before .before .before .before .before .before .before .before .is-count .ensures) ∙ sym (formed s)))
+    (place-known (s .args .t) (good s) (accounts-long s) (s .args .header .sender) (p .result) (p .ensures))
     (c .before .before .has-id .ensures (s .args .days .now))
 
 -- what they say where they pass
 few : (c : tie.After-header-answer) → c .header-answer .result ≡ 0 → (entry c .args .n ≤ 16) × (913 ≤ length (entry c .args .report .now))
 few c z =
     let s = entry c in
-    let r = early-room (head s) (rows s) (s .args .t1) (s .args .ids .now) (s .args .days .now) (s .args .used) (s .args .report .now) (s .pre) (sym (answered c) ∙ z) in
+    let r = early-room (head s) (rows s) (s .args .t) (s .args .ids .now) (s .args .days .now) (s .args .used) (s .args .report .now) (s .pre) (sym (answered c) ∙ z) in
     (count-most (s .args .header) (s .args .n) (sym (formed s) ∙ r .0), r .1)
 
 -- ---- all checks
 
 abbrev early : tie.After-first2 → tie.After-header-answer
-early c = c .before .before .before .before .before .before .before
+early c = c .before .before .before .before .before .before
 
 decided : (c : tie.After-first2) → c .first2 .result ≡ right (entry (early c))
 unfolding known
@@ -102,10 +102,10 @@ decided c =
     let y = c .before .before .any-known in
     c .first2 .ensures
     ∙ ap (λ (n : ℕ). cond (y .result) n 21) (c .before .first .ensures)
-    ∙ late-checks (head s) (rows s) (s .args .t1) (s .args .ids .now) (s .args .days .now) (s .args .used) (s .args .report .now) (s .pre) (y .result)
+    ∙ late-checks (head s) (rows s) (s .args .t) (s .args .ids .now) (s .args .days .now) (s .args .used) (s .args .report .now) (s .pre) (y .result)
     (y .ensures ∙ ap (λ (cs : List ℕ). some? (λ i. among (named i) cs) (rows s)) (s .pre .same))
-    ∙ late-answer (head s) (rows s) (s .args .t1) (s .args .ids .now) (s .args .days .now) (s .args .used) (s .args .report .now) (s .pre)
-    (sym (answered (early c)) ∙ c .before .before .before .before .before .before .if1 .left)
+    ∙ late-answer (head s) (rows s) (s .args .t) (s .args .ids .now) (s .args .days .now) (s .args .used) (s .args .report .now) (s .pre)
+    (sym (answered (early c)) ∙ c .before .before .before .before .before .if1 .left)
 
 accepted : (c : tie.Else2) → right (entry (early (c .before))) ≡ 0
 accepted c = sym (decided (c .before)) ∙ c .if2 .left
@@ -113,7 +113,7 @@ accepted c = sym (decided (c .before)) ∙ c .if2 .left
 has-place : (c : tie.Else2) → entry (early (c .before)) .args .used < 1024
 has-place c =
     let s = entry (early (c .before)) in
-    room (head s) (rows s) (s .args .t1) (s .args .ids .now) (s .args .days .now) (s .args .used) (s .args .report .now) (s .pre) (accepted c)
+    room (head s) (rows s) (s .args .t) (s .args .ids .now) (s .args .days .now) (s .args .used) (s .args .report .now) (s .pre) (accepted c)
 
 -- ---- the needs
 
@@ -142,17 +142,17 @@ returns : tie.Need-returns
 returns c =
     let s = entry (c .before) in
     let a = c .before .header-answer .result in
-    played-no (asked s) (s .args .t1) (s .args .ids .now) (s .args .days .now) (s .args .used) (s .args .report .now) (s .pre) a
-    (early-refused (head s) (rows s) (s .args .t1) (s .args .ids .now) (s .args .days .now) (s .args .used) (s .args .report .now) (s .pre) a (answered (c .before)) (c .if1 .taken))
+    played-no (asked s) (s .args .t) (s .args .ids .now) (s .args .days .now) (s .args .used) (s .args .report .now) (s .pre) a
+    (early-refused (head s) (rows s) (s .args .t) (s .args .ids .now) (s .args .days .now) (s .args .used) (s .args .report .now) (s .pre) a (answered (c .before)) (c .if1 .taken))
     (c .if1 .taken)
 
 slice-aggregate-any-known : tie.Need-slice-aggregate-any-known
-slice-aggregate-any-known c = sym (rows-long (c .before .before .before .before .before .before .before .before .before .before .before .before .before .before .before .before))
+slice-aggregate-any-known c = sym (rows-long (c .before .before .before .before .before .before .before .before .before .before .before .before .before .before .before))
 
 any-known-requires : tie.Need-any-known-requires
 any-known-requires c κs =
-    let s = c .before .before .before .before .before .before .before .before .before .before .before .before .before .before .before .before in
-    (s .pre .within, codes-long s, omega (arith, rows-long s, few (c .before .before .before .before) (c .before .before .before .if1 .left) .0))
+    let s = c .before .before .before .before .before .before .before .before .before .before .before .before .before .before .before in
+    (s .pre .within, codes-long s, omega (arith, rows-long s, few (c .before .before .before) (c .before .before .if1 .left) .0))
 
 first-requires : tie.Need-first-requires
 first-requires c κs = search needs
@@ -163,20 +163,20 @@ first-requires-2 c κs = search needs
 returns-2 : tie.Need-returns-2
 returns-2 c =
     let s = entry (early (c .before)) in
-    played-no (asked s) (s .args .t1) (s .args .ids .now) (s .args .days .now) (s .args .used) (s .args .report .now) (s .pre) (c .before .first2 .result)
+    played-no (asked s) (s .args .t) (s .args .ids .now) (s .args .days .now) (s .args .used) (s .args .report .now) (s .pre) (c .before .first2 .result)
     (decided (c .before)) (c .if2 .taken)
 
 put-report-requires : tie.Need-put-report-requires
 put-report-requires c κs =
-    let s = c .before .before .before .before .before .before .before .before .before .before .before .before .before .before .before .before .before .before .before .before .before in
-    let f = few (c .before .before .before .before .before .before .before .before .before) (c .before .before .before .before .before .before .before .before .if1 .left) in
+    let s = c .before .before .before .before .before .before .before .before .before .before .before .before .before .before .before .before .before .before .before .before in
+    let f = few (c .before .before .before .before .before .before .before .before) (c .before .before .before .before .before .before .before .if1 .left) in
     (good s, f .0, omega (arith, f .0, f .1))
 
 slice-aggregate-add-id : tie.Need-slice-aggregate-add-id
-slice-aggregate-add-id c = sym (id-long (c .before .before .before .before .before .before .before .before .before .before .before .before .before .before .before .before .before .before .before .before .before .before .before .before .before .before .before))
+slice-aggregate-add-id c = sym (id-long (c .before .before .before .before .before .before .before .before .before .before .before .before .before .before .before .before .before .before .before .before .before .before .before .before .before .before))
 
 add-id-requires : tie.Need-add-id-requires
-add-id-requires c κs = let s = c .before .before .before .before .before .before .before .before .before .before .before .before .before .before .before .before .before .before .before .before .before .before .before .before .before .before .before in (has-place (c .before .before .before .before .before .before .before), s .pre .lengths, id-long s)
+add-id-requires c κs = let s = c .before .before .before .before .before .before .before .before .before .before .before .before .before .before .before .before .before .before .before .before .before .before .before .before .before .before in (has-place (c .before .before .before .before .before .before .before), s .pre .lengths, id-long s)
 
 add-more : tie.Need-add-more
 add-more c = omega (arith, has-place (c .before .before .before .before .before .before .before .before))
@@ -187,12 +187,12 @@ same-length c = search needs
 returns-3 : tie.Need-returns-3
 unfolding toHeader
 returns-3 c =
-    let s = c .before .before .before .before .before .before .before .before .before .before .before .before .before .before .before .before .before .before .before .before .before .before .before .before .before .before .before .before in
+    let s = c .before .before .before .before .before .before .before .before .before .before .before .before .before .before .before .before .before .before .before .before .before .before .before .before .before .before .before in
     let e = c .before .before .before .before .before .before .before .before in
-    let f = few (early (e .before)) (c .before .before .before .before .before .before .before .before .before .before .before .before .before .before .before .if1 .left) in
+    let f = few (early (e .before)) (c .before .before .before .before .before .before .before .before .before .before .before .before .before .before .if1 .left) in
     let w = c .before .before .before .before .before .before .put-report in
-    let xs = accountsOf (s .args .t1) in
-    played-yes (head s) (rows s) (s .args .t1) (s .args .ids .now) (s .args .days .now) (s .args .used) (s .args .report .now) (s .pre) _ _ _ (w .result)
+    let xs = accountsOf (s .args .t) in
+    played-yes (head s) (rows s) (s .args .t) (s .args .ids .now) (s .args .days .now) (s .args .used) (s .args .report .now) (s .pre) _ _ _ (w .result)
     (accepted e) (has-place e) (c .add-id .ensures)
     (report-written (head s) xs (s .args .t7) (s .args .n) (s .args .report .now) _ (w .result) (w .ensures))
     (omega (arith, w .ensures .behind, report-most (s .args .header .sender) xs (s .args .t7) (s .args .n), f .0, f .1))
