@@ -23,7 +23,7 @@ use Rattle.account.specs.declared.Account.{Account}
 use Rattle.account.specs.View.{toAccount, Light}
 use Rattle.table.specs.declared.Table.{Table}
 use Rattle.table.specs.View.{accountsOf, machineOf, placeOf}
-use Rattle.table.specs.Promise.{Good, call, Called}
+use Rattle.table.specs.Promise.{Good, call, CalledAt}
 use Rattle.table.proofs.Found.{place-is, place-known, account-at}
 use Rattle.table.proofs.Stored.{stored-none, stored-with, stored-called}
 use Rattle.bank_checks.specs.Parts.{bankChecks}
@@ -109,7 +109,10 @@ module _ (t : Table) (g : Good t) (long : length (t .accounts) ≡ 64) where
   -- an account changed at its place, its turnovers as they were
   pub changed : (k : Command) (c j : ℕ) (d : Account) → j ≡ placeOf c (codes (accountsOf t)) → j < t .count → (f : Rule.Account → Rule.Account) → Tame f → ((x : Rule.Account) → (f x) .turnovers ≡ x .turnovers)
       → (y : Account) → toAccount y ≡ f (toAccount (getD (t .accounts) j d)) → answer (machineOf t) (call k) ≡ 0 → withAccounts (adjust c f (accountsOf t)) (machineOf t) ≡ effect (machineOf t) k
-      → Called k t (record { answer = 0; table = record { codes = t .codes; accounts = set (t .accounts) j y; count = t .count; day = t .day } })
-  changed k c j d e h f tame kept y q z w =
-      stored-called t g k (set (t .accounts) j y) (10 ^ 17) (adjust c f (accountsOf t))
-      (stored-with t g (stored-none t g long) c j d e h f y tame (λ x l. light-kept (10 ^ 17) x (f x) (kept x) l) q) z w
+      → CalledAt k t (record { answer = 0; place = j; account = y })
+  changed k c j d e h f tame kept y q z w = record {
+    below = omega (arith, h, g .within);
+    called =
+        stored-called t g k (set (t .accounts) j y) (10 ^ 17) (adjust c f (accountsOf t))
+        (stored-with t g (stored-none t g long) c j d e h f y tame (λ x l. light-kept (10 ^ 17) x (f x) (kept x) l) q) z w;
+  }

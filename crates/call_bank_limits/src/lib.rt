@@ -1,18 +1,21 @@
-// Kind 05 as a whole call: the number of the first check that fails with the very same table, or 0 with a bank's limits changed.
+// Kind 05: the number of the first check that fails with the very same table, or 0 with a bank's limits changed. As a whole call, and as the account that is
+// to be stored, for who owns the table.
 ghost use Rattle.rules.specs.Command.{BankLimits};
-ghost use Rattle.table.specs.Promise.{Good, Called};
+ghost use Rattle.table.specs.Promise.{Good, Called, CalledAt};
 use account::Limit;
 use account::with_limits;
 use amount::is_limit;
 use bank_checks::bank_checks;
+use table::Amended;
 use table::Reply;
 use table::Table;
 use table::place;
 use table::slot;
 
-pub fn bank_limits(mut t: Table, code: u32, ltk: i64, lpo: i64) -> Reply
+// The account.
+pub fn bank_limited(t: Table, code: u32, ltk: i64, lpo: i64) -> Amended
     requires { ⌜ Good t ⌝ }
-    ensures { λ r. ⌜ Called (BankLimits code ltk lpo) t r ⌝ }
+    ensures { λ r. ⌜ CalledAt (BankLimits code ltk lpo) t r ⌝ }
 {
     let n = t.count;
     let i = place(&t.codes, n, code);
@@ -21,15 +24,31 @@ pub fn bank_limits(mut t: Table, code: u32, ltk: i64, lpo: i64) -> Reply
     let in_range = (0 <= ltk) & is_limit(ltk) & is_limit(lpo);
     let a = bank_checks(code, i < n, x, in_range);
     if a != 0 {
-        return Reply {
+        return Amended {
             answer: a,
-            table: t,
+            place: j,
+            account: x,
         };
     }
     let y = with_limits(x, Limit::Value(ltk), Limit::Value(lpo));
-    t.accounts[j] = y;
-    Reply {
+    Amended {
         answer: 0,
+        place: j,
+        account: y,
+    }
+}
+
+// The whole call.
+pub fn bank_limits(mut t: Table, code: u32, ltk: i64, lpo: i64) -> Reply
+    requires { ⌜ Good t ⌝ }
+    ensures { λ r. ⌜ Called (BankLimits code ltk lpo) t r ⌝ }
+{
+    let a = bank_limited(t, code, ltk, lpo);
+    let j = a.place;
+    let x = a.account;
+    t.accounts[j] = x;
+    Reply {
+        answer: a.answer,
         table: t,
     }
 }

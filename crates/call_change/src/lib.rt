@@ -8,7 +8,6 @@ ghost use Rattle.ledger.specs.Promise.{Sound, Settled};
 ghost use Rattle.call_change.specs.Plan.{Judged, Touched};
 use account::Account;
 use account::Limit;
-use account::is_bank;
 use account::touched;
 use book::add_id;
 use command::Header;
@@ -23,7 +22,6 @@ use message_items::records;
 use message_limits::set_items;
 use rules::is_count;
 use table::Table;
-use table::place;
 use table::slot;
 
 // What a change answers, how many places of the book are used, and the items that are to be set, with the message's moment: none where it is refused.
@@ -51,7 +49,7 @@ fn declined(answer: u64, used: usize, header: Header, items: [Item; 16]) -> Plan
 }
 
 // The checks in order. The items are looked at only once the header has passed: then there are at most 16. What the message finds of the accounts is made once,
-// so that the table is not copied for each check. Where all pass, the message's id joins the book.
+// and the codes are copied out, so that the table is copied once and not for each check. Where all pass, the message's id joins the book.
 pub fn judge(
     t: Table,
     ids: &mut [u8; 32768],
@@ -67,20 +65,16 @@ pub fn judge(
     requires { ⌜ Sound t (now ids) (now days) used ⌝ }
     ensures { λ r. ⌜ Judged header id (itemsFrom 0 n accounts types values) n t (now (ids .entry)) (now (days .entry)) used r (now (ids .exit)) (now (days .exit)) ⌝ }
 {
-    let sender = header.sender;
+    let codes = t.codes;
     let count = t.count;
-    let i = place(&t.codes, count, sender);
-    let j = slot(i);
-    let x = t.accounts[j];
-    let b = branches_of(t, sender, header.day, header.second);
-    let head = is_bank(x) & b.any;
+    let b = branches_of(t, header.sender, header.day, header.second);
     let formed = is_header(header) & is_count(n);
-    let a = header_checks(formed, i < count, head, t.day, ids, used, header, &id);
+    let a = header_checks(formed, b.known, b.head, t.day, ids, used, header, &id);
     if a != 0 {
-        let none = records(&t.codes, count, accounts, types, values, 0);
+        let none = records(&codes, count, accounts, types, values, 0);
         return declined(a, used, header, none);
     }
-    let items = records(&t.codes, count, accounts, types, values, n);
+    let items = records(&codes, count, accounts, types, values, n);
     let f = test_items(b, items, n);
     let r = named_checks(f, used);
     if r != 0 {

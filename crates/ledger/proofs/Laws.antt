@@ -5,7 +5,7 @@ use mathlib.Core.List.{List, [], _∷_}
 use Prim.Native.Nat.{ℕ, zero, suc, _+_, _≤_, _<_}
 use native.Mathlib.Omega.{arith}
 use lib.Dec.{T, ltb, ltb→lt}
-use lib.ListN.{length, take}
+use lib.ListN.{length, take, getD}
 use Rattle.octets.specs.Octets.{write}
 use Rattle.octets.proofs.Places.{take-none}
 use Rattle.rules.specs.Account as Rule
@@ -17,16 +17,18 @@ use Rattle.rules.specs.Message.{keepFrom}
 use Rattle.rules.proofs.Bools.{and-l, and-r}
 use Rattle.rules.proofs.Checks.{refused-keeps}
 use Rattle.rules.proofs.Theorem.{next-keeps, start-inv}
+use Rattle.account.specs.declared.Account.{Account}
 use Rattle.table.specs.declared.Table.{Table}
 use Rattle.table.specs.declared.Reply.{Reply}
 use Rattle.table.specs.Promise.{Good, Called}
 use Rattle.table.specs.View.{accountsOf, machineOf}
+use Rattle.table.proofs.Called.{stored-same}
 use Rattle.book.specs.declared.Book.{Book}
 use Rattle.book.specs.Entries.{entriesOf, bookOf, Lengths, Behind, Added, Dropped}
 use Rattle.book.proofs.Laws.{untouched}
 use Rattle.ledger.specs.declared.Noted.{Noted}
 use Rattle.ledger.specs.View.{viewOf, ledgerView, lent, outcomeOf, nextOf}
-use Rattle.ledger.specs.Promise.{Sound, SoundLedger, Same, Settled, Played}
+use Rattle.ledger.specs.Promise.{Sound, SoundLedger, Same, Settled, Played, SettledAt}
 use Rattle.ledger.specs.Calls.{plain, silent}
 use Rattle.ledger.proofs.Reaches.{withBook, below, checks-small, unreported}
 use Rattle.ledger.proofs.Lift.{lifted, lifted-day, inv-table}
@@ -54,6 +56,13 @@ module _ (k : Command) (t : Table) (ids days : List ℕ) (used : ℕ) (g : Sound
     refused = λ z. unchanged t ids days used;
     behind = untouched ids days used;
     sound = g;
+  }
+
+  pub settled-no-at : (a : ℕ) → a ≡ answer (viewOf t ids days used) (lent 0 k) → ¬ (a ≡ 0) → (j : ℕ) (x d : Account) → j < 64 → x ≡ getD (t .accounts) j d
+      → SettledAt k t ids days used (record { answer = a; used = used; place = j; account = x }) ids days
+  settled-no-at a e h j x d l s = record {
+    below = l;
+    settled = subst (λ (u : Table). Settled k t ids days used (record { answer = a; table = u; used = used }) ids days) (sym (stored-same t j x d s)) (settled-no a e h);
   }
 
   -- the record after an accepted call is sound where it is the machine's next

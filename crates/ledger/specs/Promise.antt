@@ -1,7 +1,7 @@
 -- What a record is, and what every call on it promises. Assumes nothing.
 use mathlib.Core.Path.{_≡_}
 use mathlib.Core.List.{List}
-use Prim.Native.Nat.{ℕ, _≤_}
+use Prim.Native.Nat.{ℕ, _≤_, _<_}
 use lib.ListN.{length, take}
 use Rattle.octets.specs.Octets.{write}
 use Rattle.rules.specs.Account.{codes}
@@ -10,10 +10,12 @@ use Rattle.rules.specs.Invariant.{Invariant}
 use Rattle.rules.specs.Machine.{answer, next}
 use Rattle.table.specs.declared.Table.{Table}
 use Rattle.table.specs.View.{accountsOf}
+use Rattle.table.specs.Promise.{storedAt}
 use Rattle.book.specs.Entries.{Lengths, Behind}
 use Rattle.ledger.specs.declared.Ledger.{Ledger}
 use Rattle.ledger.specs.declared.Noted.{Noted}
 use Rattle.ledger.specs.declared.Stepped.{Stepped}
+use Rattle.ledger.specs.declared.Entered.{Entered}
 use Rattle.ledger.specs.View.{viewOf, lent, outcomeOf, nextOf}
 
 -- what `fresh` gives and every call gives back
@@ -54,3 +56,15 @@ pub record Played (cs : List Command) (t : Table) (ids days : List ℕ) (used : 
   pub refused : ¬ (r .answer ≡ 0) → Same t ids days used (r .table) ids′ days′ (r .used)
   pub behind : Behind ids days ids′ days′ (r .used)
   pub sound : Sound (r .table) ids′ days′ (r .used)
+
+-- ---- the same of whoever stores the account that came back at its place. A refusal gives the account that stands there
+
+pub record SettledAt (k : Command) (t : Table) (ids days : List ℕ) (used : ℕ) (r : Entered) (ids′ days′ : List ℕ) : Type 0 where
+  pub below : r .place < 64
+  pub settled : Settled k t ids days used (record { answer = r .answer; table = storedAt t (r .place) (r .account); used = r .used }) ids′ days′
+
+-- there is no report
+pub record PlayedAt (cs : List Command) (t : Table) (ids days : List ℕ) (used : ℕ) (r : Entered) (ids′ days′ : List ℕ) : Type 0 where
+  pub below : r .place < 64
+  pub played : (report : List ℕ)
+      → Played cs t ids days used report (record { answer = r .answer; table = storedAt t (r .place) (r .account); used = r .used; «report_len» = 0 }) ids′ days′ report

@@ -5,6 +5,7 @@ ghost use Rattle.table.specs.Promise.{Unused};
 ghost use Rattle.book.specs.Entries.{emptyBook};
 ghost use Rattle.ledger.specs.View.{ledgerView};
 ghost use Rattle.ledger.specs.Promise.{SoundLedger};
+use account::Account;
 use book::Book;
 use table::Table;
 
@@ -27,6 +28,14 @@ pub struct Stepped {
     pub table: Table,
     pub used: usize,
     pub report_len: usize,
+}
+
+// Of a call that changes one account: what it answers, how many places of the book are used, a place of the table, and the account that is to stand there.
+pub struct Entered {
+    pub answer: u64,
+    pub used: usize,
+    pub place: usize,
+    pub account: Account,
 }
 
 pub fn fresh() -> Ledger

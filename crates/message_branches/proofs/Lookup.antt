@@ -5,18 +5,19 @@ use mathlib.Core.List.{List, [], _∷_, _++_, map, append-nil}
 use Prim.Native.Nat.{ℕ, zero, suc, _+_, _-_, _≤_, _<_}
 use native.Mathlib.Omega.{arith}
 use native.Mathlib.Numerals.{add-one}
-use lib.Dec.{eqb}
+use lib.Dec.{eqb, ltb}
 use lib.ListN.{length, take, getD, set, replicate}
 use lib.Seq.{take-suc, take-all, length-take-le}
-use Rattle.rules.specs.Account.{Moment, Account, blank, codes, among, known, at}
+use Rattle.rules.specs.Account.{Moment, Account, isNone, isBank, opened, blank, codes, among, known, at}
 use Rattle.rules.specs.Command.{some?}
-use Rattle.rules.specs.Message.{isBranchOf, later}
+use Rattle.rules.specs.Message.{isBranchOf, isHead, later}
 use Rattle.account.specs.declared.Account as Program
 use Rattle.account.specs.View.{toAccount}
 use Rattle.table.specs.declared.Table.{Table}
-use Rattle.table.specs.Promise.{Good}
+use Rattle.table.specs.Promise.{Good, Slot}
 use Rattle.table.specs.View.{accountsOf, placeOf}
 use Rattle.table.proofs.Places.{accounts-length, accounts-at}
+use Rattle.table.proofs.Found as Found
 use Rattle.message_branches.specs.declared.Branches.{Branches}
 use Rattle.message_branches.specs.Marks.{marks, isOwned, isTimely, Marked}
 
@@ -86,6 +87,23 @@ module _ (f : Account → Bool) where
 
   pub some-all : (t : Table) → Good t → length (t .accounts) ≡ 64 → (i : ℕ) → i ≡ t .count → some? f (take i (accountsOf t)) ≡ some? f (accountsOf t)
   some-all t g long i e = ap (some? f) (take-all i (accountsOf t) (omega (arith, accounts-length t (g .within) long)))
+
+-- ---- whether the sender is a bank that has a branch
+
+bank-known : (c : ℕ) (xs : List Account) → (known c xs && isBank (at c xs)) ≡ isBank (at c xs)
+unfolding codes among known at blank opened isBank isNone
+bank-known c [] = refl
+bank-known c (x ∷ xs) =
+    elim (eqb (x .code) c) as (λ b. ((b || known c xs) && isBank (cond b x (at c xs))) ≡ isBank (cond b x (at c xs)))
+    [ true ↦ refl | false ↦ bank-known c xs ]
+
+-- its place is i, and the account was read at j
+pub head-found : (t : Table) → Good t → length (t .accounts) ≡ 64 → (sender i j : ℕ) → i ≡ placeOf sender (take (t .count) (t .codes)) → Slot i j → (d : Program.Account) (bank any : Bool)
+    → bank ≡ isBank (toAccount (getD (t .accounts) j d)) → any ≡ some? (isOwned sender) (accountsOf t) → ((ltb i (t .count) && bank) && any) ≡ isHead sender (accountsOf t)
+unfolding isHead
+head-found t g long sender i j e s d bank any b o =
+    ap₂ (λ (x y : Bool). (ltb i (t .count) && x) && y) b o
+    ∙ ap (λ (x : Bool). x && some? (isOwned sender) (accountsOf t)) (Found.looked t g long sender i j e s d (λ k x. k && isBank x) (λ x y. refl) ∙ bank-known sender (accountsOf t))
 
 module _ (t : Table) (g : Good t) (sender : ℕ) (m : Moment) (b : Branches) (k : Marked sender m t b) (c : ℕ) where
   found : (f : Account → Bool) (d : Bool) → getD (marks f d (accountsOf t)) (placeOf c (take (t .count) (t .codes))) d ≡ cond (known c (accountsOf t)) (f (at c (accountsOf t))) d

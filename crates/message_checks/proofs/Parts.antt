@@ -1,24 +1,18 @@
 -- What the two parts of the checks say, of a header and of the limits that a message names. Assumes nothing.
-use mathlib.Core.Path.{_≡_, refl, sym, ap, ap₂, _∙_, subst}
-use mathlib.Core.Bool.{Bool, true, false, not, cond, _&&_}
+use mathlib.Core.Path.{_≡_, sym, ap, _∙_}
+use mathlib.Core.Bool.{Bool, true, not}
 use mathlib.Core.List.{List, [], _∷_}
-use Prim.Native.Nat.{ℕ, _<_}
-use native.Mathlib.Omega.{arith}
-use lib.Dec.{T, ltb, ltb→lt}
-use lib.ListN.{length, take, drop, getD}
-use Rattle.rules.specs.Account as Rule
-use Rattle.rules.specs.Account.{isBank, known, at}
-use Rattle.rules.specs.Command.{Header, Item, Change, Deletion, some?}
+use Prim.Native.Nat.{ℕ}
+use lib.Dec.{ltb}
+use lib.ListN.{drop}
+use Rattle.rules.specs.Account.{known}
+use Rattle.rules.specs.Command.{Header, Item, Change, Deletion}
 use Rattle.rules.specs.Machine.{checks, firstFailure, hasBookPlace}
-use Rattle.rules.specs.Message.{inBook, ownedBy, isHead, isMessageId, isCurrent}
-use Rattle.account.specs.declared.Account.{Account}
-use Rattle.account.specs.View.{toAccount}
+use Rattle.rules.specs.Message.{inBook, isHead, isMessageId, isCurrent}
 use Rattle.command.specs.declared.Header as Program
 use Rattle.command.specs.View.{toHeader}
 use Rattle.table.specs.declared.Table.{Table}
-use Rattle.table.specs.View.{accountsOf, placeOf}
-use Rattle.table.specs.Promise.{Good, Slot}
-use Rattle.table.proofs.Found.{place-is, place-known, account-at}
+use Rattle.table.specs.View.{accountsOf}
 use Rattle.book.specs.Entries.{entriesOf}
 use Rattle.book.proofs.Laws.{entries-length}
 use Rattle.ledger.specs.View.{viewOf}
@@ -27,45 +21,21 @@ use Rattle.message_item_checks.specs.Items.{Flagged, Named}
 use Rattle.message_item_checks.proofs.Laws.{items-checked, limit-checked}
 use Rattle.message_checks.specs.Parts.{headerChecks, namedChecks}
 
--- ---- a code looked for in the table: its place is i, and the account was read at j
+-- ---- the header, by whether the sender is known, and a bank that has a branch
 
-module _ (t : Table) (g : Good t) (long : length (t .accounts) ≡ 64) (c i j : ℕ) (e : i ≡ placeOf c (take (t .count) (t .codes))) (s : Slot i j) (d : Account) where
-  -- of what looks at the account of a known code only
-  pub looked : {X : Type 0} (f : Bool → Rule.Account → X) → ((x y : Rule.Account) → f false x ≡ f false y)
-      → f (ltb i (t .count)) (toAccount (getD (t .accounts) j d)) ≡ f (known c (accountsOf t)) (at c (accountsOf t))
-  looked f same = go (ltb i (t .count)) refl ∙ ap (λ b. f b (at c (accountsOf t))) (place-known t g long c i e)
-    where
-      go : (b : Bool) → ltb i (t .count) ≡ b → f b (toAccount (getD (t .accounts) j d)) ≡ f b (at c (accountsOf t))
-      go true h =
-          let below : i < t .count = ltb→lt i (t .count) (subst T (sym h) tt) in
-          let q : j ≡ i = s .same (omega (arith, g .within)) in
-          ap (f true) (account-at t g long c j d (q ∙ place-is t g c i e) (subst (λ n. n < t .count) (sym q) below))
-      go false h = same (toAccount (getD (t .accounts) j d)) (at c (accountsOf t))
-
--- the sender is looked for: whether its account is a bank's, and whether an account is owned by it
-pub header-answer : (t : Table) → Good t → length (t .accounts) ≡ 64 → (h : Program.Header) (i j : ℕ) → i ≡ placeOf (h .sender) (take (t .count) (t .codes)) → Slot i j → (d : Account)
-    → (bank some : Bool) → bank ≡ isBank (toAccount (getD (t .accounts) j d)) → some ≡ some? (λ (x : Rule.Account). ownedBy (h .sender) (x .owner)) (accountsOf t)
+pub header-answer : (t : Table) (h : Program.Header) (found head : Bool) → found ≡ known (h .sender) (accountsOf t) → head ≡ isHead (h .sender) (accountsOf t)
     → (id ids days : List ℕ) (used : ℕ) (formed f : Bool) → formed ≡ f → (r : ℕ)
     → r ≡ firstFailure
     ((1, formed)
-    ∷ (4, ltb i (t .count))
+    ∷ (4, found)
     ∷ (14, not (inBook id (entriesOf ids days used)))
-    ∷ (15, bank && some)
+    ∷ (15, head)
     ∷ (16, isMessageId id)
     ∷ (17, isCurrent (t .day) (h .day))
     ∷ [])
     → r ≡ firstFailure (headerChecks f (toHeader h id) (viewOf t ids days used))
-unfolding headerChecks firstFailure viewOf toHeader isHead
-header-answer t g long h i j e s d bank some b o id ids days used formed f w r q =
-    q
-    ∙ ap (λ (x : Bool). answered x (ltb i (t .count)) (bank && some)) w
-    ∙ ap₂ (λ (x y : Bool). answered f (ltb i (t .count)) (x && y)) b o
-    ∙ looked t g long (h .sender) i j e s d (λ c x. answered f c (isBank x && some? (λ (y : Rule.Account). ownedBy (h .sender) (y .owner)) (accountsOf t)))
-    (λ x y. refl)
-  where
-    answered : Bool → Bool → Bool → ℕ
-    answered formed known head =
-        cond formed (cond known (cond (not (inBook id (entriesOf ids days used))) (cond head (cond (isMessageId id) (cond (isCurrent (t .day) (h .day)) 0 17) 16) 15) 14) 4) 1
+unfolding headerChecks viewOf toHeader
+header-answer t h found head k b id ids days used formed f w r q = q ∙ rw (w, k, b)
 
 -- ---- the limits that a message names
 

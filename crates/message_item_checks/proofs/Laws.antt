@@ -1,13 +1,11 @@
 -- What the flags say of a message's checks, and how they come about. Assumes nothing.
-use mathlib.Core.Path.{_≡_, refl, sym, ap, ap₂, _∙_, subst}
-use mathlib.Core.Bool.{Bool, true, false, _&&_, and-true}
+use mathlib.Core.Path.{_≡_, refl, ap, ap₂, _∙_}
+use mathlib.Core.Bool.{Bool, true, _&&_, and-true}
 use mathlib.Core.List.{List, [], _∷_, map}
-use Prim.Native.Nat.{ℕ, _<_}
-use native.Mathlib.Omega.{arith}
-use lib.Dec.{T, ltb, ltb→lt}
+use Prim.Native.Nat.{ℕ}
+use lib.Dec.{ltb}
 use lib.ListN.{length, take, drop, getD}
 use Rattle.amount.specs.Amount.{isLimit}
-use Rattle.rules.specs.Account as Rule
 use Rattle.rules.specs.Account.{known, at}
 use Rattle.rules.specs.Command.{Header, Item, Change, Deletion, every}
 use Rattle.rules.specs.Machine.{Machine, hasBookPlace, checks, firstFailure}
@@ -17,7 +15,7 @@ use Rattle.account.specs.View.{toAccount}
 use Rattle.table.specs.declared.Table.{Table}
 use Rattle.table.specs.Promise.{Good, Slot}
 use Rattle.table.specs.View.{accountsOf, placeOf}
-use Rattle.table.proofs.Found.{place-is, place-known, account-at}
+use Rattle.table.proofs.Found.{looked}
 use Rattle.message_branches.specs.declared.Branches.{Branches}
 use Rattle.message_branches.specs.Marks.{Marked}
 use Rattle.message_branches.proofs.Lookup.{owned-found, later-found}
@@ -43,24 +41,12 @@ limit-checked m room h i kind f g =
 
 module _ (t : Table) (g : Good t) (long : length (t .accounts) ≡ 64) where
   module _ (c p j : ℕ) (e : p ≡ placeOf c (take (t .count) (t .codes))) (s : Slot p j) (d : Account) where
-    -- a test that looks at no account where the code is not known
-    seen : (q : Bool → Rule.Account → Bool) → ((x y : Rule.Account) → q false x ≡ q false y)
-        → q (ltb p (t .count)) (toAccount (getD (t .accounts) j d)) ≡ q (known c (accountsOf t)) (at c (accountsOf t))
-    seen q blind = go (ltb p (t .count)) refl ∙ ap (λ b. q b (at c (accountsOf t))) (place-known t g long c p e)
-      where
-        go : (b : Bool) → ltb p (t .count) ≡ b → q b (toAccount (getD (t .accounts) j d)) ≡ q b (at c (accountsOf t))
-        go true h =
-            let below : p < t .count = ltb→lt p (t .count) (subst T (sym h) tt) in
-            let same : j ≡ p = s .same (omega (arith, g .within)) in
-            ap (q true) (account-at t g long c j d (same ∙ place-is t g c p e) (subst (λ n. n < t .count) (sym same) below))
-        go false h = blind (toAccount (getD (t .accounts) j d)) (at c (accountsOf t))
-
     own-is : (h : Header) → isOwn h (ltb p (t .count)) (toAccount (getD (t .accounts) j d)) ≡ isBranchOf (h .sender) c (accountsOf t)
     unfolding isBranchOf
-    own-is h = seen (isOwn h) (λ x y. refl)
+    own-is h = looked t g long c p j e s d (isOwn h) (λ x y. refl)
 
     in-time-is : (h : Header) → isInTime h (ltb p (t .count)) (toAccount (getD (t .accounts) j d)) ≡ isInTime h (known c (accountsOf t)) (at c (accountsOf t))
-    in-time-is h = seen (isInTime h) (λ x y. refl)
+    in-time-is h = looked t g long c p j e s d (isInTime h) (λ x y. refl)
 
   module _ (i : List ℕ) (p j : ℕ) (e : p ≡ placeOf (named i) (take (t .count) (t .codes))) (s : Slot p j) (d : Account) where
     pub limit-tested : (h : Header) (kind : ℕ) (f : Flags) → Tested h (ltb p (t .count)) (toAccount (getD (t .accounts) j d)) kind f → Named h (accountsOf t) i kind f

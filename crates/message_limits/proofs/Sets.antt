@@ -21,7 +21,7 @@ use Rattle.command.proofs.Forms.{itemAt, items-next}
 use Rattle.account.specs.declared.Account.{Account}
 use Rattle.account.specs.View.{toAccount, Light}
 use Rattle.table.specs.declared.Table.{Table}
-use Rattle.table.specs.Promise.{Good, Holds}
+use Rattle.table.specs.Promise.{Good, Slot, Holds, storedAt}
 use Rattle.table.specs.View.{accountsOf, machineOf, placeOf}
 use Rattle.table.proofs.Found.{place-is, place-known}
 use Rattle.table.proofs.Stored.{Stored, stored-none, stored-with}
@@ -84,6 +84,13 @@ module _ (t : Table) (g : Good t) (long : length (t .accounts) ≡ 64) where
         same = ap₂ take en ec ∙ g .same ∙ sym (s .same) ∙ ap codes (sym view);
         view = ap₂ (λ ys n. record { day = n; accounts = ys; ids = [] }) view ed;
       }
+
+  -- the account of a known code, stored anew at its place
+  pub one-holds : (c p j : ℕ) → p ≡ placeOf c (take (t .count) (t .codes)) → Slot p j → p < t .count → {f : Rule.Account → Rule.Account} → Quiet f → (y d : Account)
+      → toAccount y ≡ f (toAccount (getD (t .accounts) j d)) → Holds t (storedAt t j y) (adjust c f (accountsOf t))
+  one-holds c p j e s h {f} q y d r =
+      let same : j ≡ p = s .same (omega (arith, h, g .within)) in
+      stored-holds (storedAt t j y) (10 ^ 17) (adjust c f (accountsOf t)) refl refl refl (one-changed (stored-none t g long) c j (same ∙ e) q y d (omega (arith, same, h)) r)
 
 -- ---- the items of a change
 

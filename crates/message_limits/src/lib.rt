@@ -1,8 +1,7 @@
-// The limits that a change and a deletion name, set on a table.
+// The limits that a change names, set on a table, and the limit that a deletion names, deleted of an account.
 ghost use mathlib.Core.Path.{_≡_};
 ghost use mathlib.Core.List.{List};
 ghost use Prim.Native.Nat.{ℕ, _≤_};
-ghost use Rattle.rules.specs.Account.{adjust};
 ghost use Rattle.rules.specs.Message as Message;
 ghost use Rattle.command.specs.View.{toHeader, itemsFrom};
 ghost use Rattle.account.specs.View.{toAccount};
@@ -50,27 +49,12 @@ pub fn set_items(
 
 // ---- a deletion
 
-// One limit of an account deleted.
-fn deleted(x: Account, kind: u8, header: Header) -> Account
+// One limit of an account deleted, and the message's moment put on it.
+pub fn deleted(x: Account, kind: u8, header: Header) -> Account
     ensures { λ r. ⌜ ((id : List ℕ) → toAccount r ≡ Message.touch (toHeader header id) kind Message.cleared (toAccount x)) ⌝ }
 {
     let ltk = x.ltk;
     let lpo = x.lpo;
     let limit = if kind == 1 { ltk } else { lpo };
     touched(x, kind, cleared(limit), header.day, header.second)
-}
-
-// A deletion; an unknown code changes nothing.
-pub fn delete_limit(mut t: Table, code: u32, kind: u8, header: Header) -> Table
-    requires { ⌜ Good t ⌝ }
-    ensures { λ r. ⌜ ((id : List ℕ) → Holds t r (adjust code (Message.touch (toHeader header id) kind Message.cleared) (accountsOf t))) ⌝ }
-{
-    let n = t.count;
-    let p = place(&t.codes, n, code);
-    if p >= n {
-        return t;
-    }
-    let y = deleted(t.accounts[p], kind, header);
-    t.accounts[p] = y;
-    t
 }

@@ -40,15 +40,15 @@ abbrev asked : tie.Start → Command
 asked s = Change (of s) (items s)
 
 abbrev view : tie.Start → Machine
-view s = viewOf (s .args .t1) (s .args .ids .now) (s .args .days .now) (s .args .used)
+view s = viewOf (s .args .t) (s .args .ids .now) (s .args .days .now) (s .args .used)
 
-good : (s : tie.Start) → Good (s .args .t1)
-good s = good-table (s .args .t1) (s .args .ids .now) (s .args .days .now) (s .args .used) (s .pre)
+good : (s : tie.Start) → Good (s .args .t)
+good s = good-table (s .args .t) (s .args .ids .now) (s .args .days .now) (s .args .used) (s .pre)
 
 id-long : (s : tie.Start) → length (s .args .t6) ≡ 32
 id-long s = search needs
 
-long : (s : tie.Start) → length (s .args .t1 .accounts) ≡ 64
+long : (s : tie.Start) → length (s .args .t .accounts) ≡ 64
 long s = search (needs, length-mapped)
 
 formed : (s : tie.Start) → wellFormed (asked s) ≡ ((isCode (s .args .header .sender) && leb (s .args .header .second) 86399) && isCount (s .args .n))
@@ -68,7 +68,7 @@ few : (s : tie.Start) → T (wellFormed (asked s)) → s .args .n ≤ 16
 few s w = count-most (s .args .header) (s .args .n) (sym (formed s) ∙ is-true (wellFormed (asked s)) w)
 
 abbrev entry : tie.After-header-checks → tie.Start
-entry c = c .before .before .before .before .before .before .before .before .before .before .before .before .before .before
+entry c = c .before .before .before .before .before .before .before .before
 
 tested : (c : tie.After-header-checks) → (c .before .before .before .before .before .is-header .result && c .before .before .before .before .is-count .result) ≡ wellFormed (asked (entry c))
 tested c = ap₂ _&&_ (c .before .before .before .before .before .is-header .ensures) (c .before .before .before .before .is-count .ensures) ∙ sym (formed (entry c))
@@ -77,11 +77,8 @@ tested c = ap₂ _&&_ (c .before .before .before .before .before .is-header .ens
 header-is : (c : tie.After-header-checks) → c .header-checks .result ≡ firstFailure (headerChecks (wellFormed (asked (entry c))) (of (entry c)) (view (entry c)))
 header-is c =
     let s = entry c in
-    let k = c .before .before .before .before .before .before in
-    let i = k .before .before .before .before .before .place in
-    let j = k .before .before .before .before .slot in
-    header-answer (s .args .t1) (good s) (long s) (s .args .header) (i .result) (j .result) (i .ensures) (j .ensures) _ _ _ (k .before .is-bank .ensures)
-    (k .before .before .branches-of .ensures .any-is) (s .args .t6) (s .args .ids .now) (s .args .days .now) (s .args .used) _ _ (tested c)
+    let b = c .before .before .before .before .before .before .branches-of in
+    header-answer (s .args .t) (s .args .header) _ _ (b .ensures .known-is) (b .ensures .head-is) (s .args .t6) (s .args .ids .now) (s .args .days .now) (s .args .used) _ _ (tested c)
     _ (c .header-checks .ensures (s .args .days .now))
 
 -- the header has passed
@@ -91,42 +88,27 @@ fits c =
     let s = entry (c .before) in
     few s (passed 1 (headerChecks (wellFormed (asked s)) (of s) (view s)) tt (sym (header-is (c .before)) ∙ c .if1 .left))
 
-answered : (c : tie.After-named-checks) → let s = entry (c .before .before .before .before .before .before) in c .named-checks .result ≡ answer (view s) (lent 0 (asked s))
+answered : (c : tie.After-named-checks) → let s = entry (c .before .before .before .before .before) in c .named-checks .result ≡ answer (view s) (lent 0 (asked s))
 unfolding checks headerChecks toHeader
 answered c =
-    let e = c .before .before .before .before .before in
+    let e = c .before .before .before .before in
     let k = e .before in
     let s = entry k in
-    header-passes (asked s) (of s) (s .args .t1) (s .args .ids .now) (s .args .days .now) (s .args .used) (wellFormed (asked s)) refl (k .header-checks .result) (header-is k) (e .if1 .left) (c .named-checks .result)
-    (c .named-checks .ensures ∙ change-rest (s .args .t1) (s .args .ids .now) (s .args .days .now) (s .args .used) (of s) (c .before .test-items .result) (items s)
-    (c .before .test-items .ensures (of s) (s .args .t1) (items s) (good s) (k .before .before .before .before .before .before .before .before .branches-of .ensures) (c .before .before .records2 .ensures)))
+    header-passes (asked s) (of s) (s .args .t) (s .args .ids .now) (s .args .days .now) (s .args .used) (wellFormed (asked s)) refl (k .header-checks .result) (header-is k) (e .if1 .left) (c .named-checks .result)
+    (c .named-checks .ensures ∙ change-rest (s .args .t) (s .args .ids .now) (s .args .days .now) (s .args .used) (of s) (c .before .test-items .result) (items s)
+    (c .before .test-items .ensures (of s) (s .args .t) (items s) (good s) (k .before .before .before .before .before .before .branches-of .ensures) (c .before .before .records2 .ensures)))
 
-accepted : (c : tie.Else2) → let s = entry (c .before .before .before .before .before .before .before) in answer (view s) (lent 0 (asked s)) ≡ 0
+accepted : (c : tie.Else2) → let s = entry (c .before .before .before .before .before .before) in answer (view s) (lent 0 (asked s)) ≡ 0
 accepted c = sym (answered (c .before)) ∙ c .if2 .left
 
-placed : (c : tie.Else2) → entry (c .before .before .before .before .before .before .before) .args .used < 1024
+placed : (c : tie.Else2) → entry (c .before .before .before .before .before .before) .args .used < 1024
 unfolding answer checks limitChecks
 placed c =
-    let s = entry (c .before .before .before .before .before .before .before) in
-    room (asked s) (of s) (s .args .t1) (s .args .ids .now) (s .args .days .now) (s .args .used) (passed 22 (checks (view s) 0 (asked s)) tt (accepted c))
-
-place-requires : tie.Need-place-requires
-place-requires c κs = search needs
-
-slot-requires : tie.Need-slot-requires
-slot-requires c κs = search needs
-
-mul-x : tie.Need-mul-x
-mul-x c = search needs
-
-element-copy-out-x : tie.Need-element-copy-out-x
-element-copy-out-x c = search needs
+    let s = entry (c .before .before .before .before .before .before) in
+    room (asked s) (of s) (s .args .t) (s .args .ids .now) (s .args .days .now) (s .args .used) (passed 22 (checks (view s) 0 (asked s)) tt (accepted c))
 
 branches-of-requires : tie.Need-branches-of-requires
-branches-of-requires c κs = good (c .before .before .before .before .before)
-
-is-bank-requires : tie.Need-is-bank-requires
-is-bank-requires c κs = search needs
+branches-of-requires c κs = good (c .before)
 
 is-header-requires : tie.Need-is-header-requires
 is-header-requires c κs = search needs
@@ -135,15 +117,15 @@ is-count-requires : tie.Need-is-count-requires
 is-count-requires c κs = search needs
 
 slice-aggregate-header-checks : tie.Need-slice-aggregate-header-checks
-slice-aggregate-header-checks c = sym (id-long (c .before .before .before .before .before .before .before .before .before .before .before .before .before))
+slice-aggregate-header-checks c = sym (id-long (c .before .before .before .before .before .before .before))
 
 header-checks-requires : tie.Need-header-checks-requires
 header-checks-requires c κs =
-    let s = c .before .before .before .before .before .before .before .before .before .before .before .before .before in
+    let s = c .before .before .before .before .before .before .before in
     (omega (arith, s .pre .few, s .pre .lengths .ids-long), id-long s)
 
 records-requires : tie.Need-records-requires
-records-requires c κs = let s = entry (c .before .before .before) in (omega arith, good s .within, search needs)
+records-requires c κs = let s = entry (c .before .before) in (omega arith, good s .within, search needs)
 
 declined-requires : tie.Need-declined-requires
 declined-requires c κs = search needs
@@ -151,17 +133,17 @@ declined-requires c κs = search needs
 returns : tie.Need-returns
 unfolding headerChecks checks
 returns c =
-    let k = c .before .before .before .before .before in
+    let k = c .before .before .before .before in
     let s = entry k in
-    judged-no (s .args .header) (s .args .t6) (items s) (s .args .n) (s .args .t1) (s .args .ids .now) (s .args .days .now) (s .args .used) (k .header-checks .result) _ (c .declined .result)
-    (header-fails (asked s) (of s) (s .args .t1) (s .args .ids .now) (s .args .days .now) (s .args .used) (wellFormed (asked s)) refl (k .header-checks .result) (header-is k) (c .before .before .before .before .if1 .taken))
-    (c .before .before .before .before .if1 .taken) (c .declined .ensures)
+    judged-no (s .args .header) (s .args .t6) (items s) (s .args .n) (s .args .t) (s .args .ids .now) (s .args .days .now) (s .args .used) (k .header-checks .result) _ (c .declined .result)
+    (header-fails (asked s) (of s) (s .args .t) (s .args .ids .now) (s .args .days .now) (s .args .used) (wellFormed (asked s)) refl (k .header-checks .result) (header-is k) (c .before .before .before .if1 .taken))
+    (c .before .before .before .if1 .taken) (c .declined .ensures)
 
 records-requires-2 : tie.Need-records-requires-2
-records-requires-2 c κs = let s = entry (c .before .before .before) in (fits (c .before .before), good s .within, search needs)
+records-requires-2 c κs = let s = entry (c .before .before) in (fits (c .before), good s .within, search needs)
 
 test-items-requires : tie.Need-test-items-requires
-test-items-requires c κs = fits (c .before .before .before)
+test-items-requires c κs = fits (c .before .before)
 
 named-checks-requires : tie.Need-named-checks-requires
 named-checks-requires c κs = search needs
@@ -172,17 +154,17 @@ declined-requires-2 c κs = search needs
 returns-2 : tie.Need-returns-2
 returns-2 c =
     let k = c .before .before in
-    let s = entry (k .before .before .before .before .before .before) in
-    judged-no (s .args .header) (s .args .t6) (items s) (s .args .n) (s .args .t1) (s .args .ids .now) (s .args .days .now) (s .args .used) (k .named-checks .result) _ (c .declined2 .result)
+    let s = entry (k .before .before .before .before .before) in
+    judged-no (s .args .header) (s .args .t6) (items s) (s .args .n) (s .args .t) (s .args .ids .now) (s .args .days .now) (s .args .used) (k .named-checks .result) _ (c .declined2 .result)
     (answered k) (c .before .if2 .taken) (c .declined2 .ensures)
 
 slice-aggregate-add-id : tie.Need-slice-aggregate-add-id
-slice-aggregate-add-id c = sym (id-long (entry (c .before .before .before .before .before .before .before .before .before .before)))
+slice-aggregate-add-id c = sym (id-long (entry (c .before .before .before .before .before .before .before .before .before)))
 
 add-id-requires : tie.Need-add-id-requires
 add-id-requires c κs =
     let e = c .before .before .before in
-    let s = entry (e .before .before .before .before .before .before .before) in
+    let s = entry (e .before .before .before .before .before .before) in
     (placed e, s .pre .lengths, id-long s)
 
 add-more : tie.Need-add-more
@@ -197,7 +179,7 @@ returns-3 c =
       second-is = refl;
       refused = λ z. absurd (z refl);
       passed = λ z. record {
-        few = fits (e .before .before .before .before .before .before);
+        few = fits (e .before .before .before .before .before);
         room = placed e;
         used-is = refl;
         count-is = refl;
@@ -210,12 +192,7 @@ pub judge-spec : {M : Type 1} → statement M
 judge-spec =
     tie.close
     (tie.spec
-    place-requires
-    slot-requires
-    mul-x
-    element-copy-out-x
     branches-of-requires
-    is-bank-requires
     is-header-requires
     is-count-requires
     slice-aggregate-header-checks

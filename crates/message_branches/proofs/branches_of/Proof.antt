@@ -8,13 +8,14 @@ use lib.ListN.{length, take, length-set}
 use Rattle.rules.specs.Command.{some?}
 use Rattle.table.specs.View.{accountsOf}
 use Rattle.table.proofs.Places.{length-mapped}
+use Rattle.table.proofs.Found.{place-known}
 use Rattle.message_branches.specs.Marks.{marks, isOwned, isTimely}
-use Rattle.message_branches.proofs.Lookup.{marks-none, marks-at, marks-all, some-at, some-all}
+use Rattle.message_branches.proofs.Lookup.{marks-none, marks-at, marks-all, some-at, some-all, head-found}
 use Rattle.message_branches.proofs.branches_of.Statement.{statement}
 use Rattle.message_branches.proofs.branches_of.Tie as tie
 
 abbrev Inv-loop : tie.InvT-loop
-Inv-loop sender day second t n owned₀ later₀ any₀ i₀ owned later any i =
+Inv-loop sender day second t n p j bank owned₀ later₀ any₀ i₀ owned later any i =
     (i ≤ n)
     × (length owned ≡ 64)
     × (length later ≡ 64)
@@ -23,14 +24,29 @@ Inv-loop sender day second t n owned₀ later₀ any₀ i₀ owned later any i =
     × (any ≡ some? (isOwned sender) (take i (accountsOf t)))
 
 abbrev μ-loop : tie.MeasureT-loop
-μ-loop sender day second t n owned₀ later₀ any₀ i₀ owned later any i = n - i
+μ-loop sender day second t n p j bank owned₀ later₀ any₀ i₀ owned later any i = n - i
 
 long : (s : tie.Start Inv-loop μ-loop) → length (s .args .t1 .accounts) ≡ 64
 long s = search (needs, length-mapped)
 
+place-requires : tie.Need-place-requires Inv-loop μ-loop
+place-requires c κs = search needs
+
+slot-requires : tie.Need-slot-requires Inv-loop μ-loop
+slot-requires c κs = search needs
+
+mul-is-bank : tie.Need-mul-is-bank Inv-loop μ-loop
+mul-is-bank c = search needs
+
+element-copy-out-is-bank : tie.Need-element-copy-out-is-bank Inv-loop μ-loop
+element-copy-out-is-bank c = search needs
+
+is-bank-requires : tie.Need-is-bank-requires Inv-loop μ-loop
+is-bank-requires c κs = search needs
+
 loop-holds : tie.Need-loop-holds Inv-loop μ-loop
 unfolding some?
-loop-holds c = let xs = accountsOf (c .args .t1) in (omega arith, refl, refl, sym (marks-none _ _ xs), sym (marks-none _ _ xs), refl)
+loop-holds c = let xs = accountsOf (c .before .before .before .before .before .before .args .t1) in (omega arith, refl, refl, sym (marks-none _ _ xs), sym (marks-none _ _ xs), refl)
 
 mul-x : tie.Need-mul-x Inv-loop μ-loop
 mul-x c = omega arith
@@ -59,7 +75,7 @@ loop-less c = omega arith
 loop-again : tie.Need-loop-again Inv-loop μ-loop
 loop-again c =
     let l = c .before .before .before .before in
-    let s = l .before in
+    let s = l .before .before .before .before .before .before .before in
     let t = s .args .t1 in
     let h : l .loop .i < t .count = omega arith in
     let own = c .before .is-owned-by .ensures in (
@@ -74,12 +90,14 @@ loop-again c =
 returns : tie.Need-returns Inv-loop μ-loop
 returns c =
     let l = c .before in
-    let s = l .before in
+    let s = l .before .before .before .before .before .before .before in
+    let p = l .before .before .before .before .place in
     let e : l .loop .i ≡ s .args .t1 .count = omega arith in
     record {
       owned-are = l .loop .inv .3 ∙ marks-all _ _ (s .args .t1) (s .pre) (long s) _ e;
       later-are = l .loop .inv .4 ∙ marks-all _ _ (s .args .t1) (s .pre) (long s) _ e;
-      any-is = l .loop .inv .5 ∙ some-all _ (s .args .t1) (s .pre) (long s) _ e;
+      known-is = place-known (s .args .t1) (s .pre) (long s) (s .args .sender) (p .result) (p .ensures);
+      head-is = head-found (s .args .t1) (s .pre) (long s) (s .args .sender) (p .result) _ (p .ensures) (l .before .before .before .slot .ensures) _ _ _ (l .before .is-bank .ensures) (l .loop .inv .5 ∙ some-all _ (s .args .t1) (s .pre) (long s) _ e);
     }
 
 pub branches-of-spec : {M : Type 1} → statement M
@@ -88,6 +106,11 @@ branches-of-spec =
     (tie.spec
     Inv-loop
     μ-loop
+    place-requires
+    slot-requires
+    mul-is-bank
+    element-copy-out-is-bank
+    is-bank-requires
     loop-holds
     mul-x
     element-copy-out-x
