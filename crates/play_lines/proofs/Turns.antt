@@ -43,12 +43,16 @@ module _ (line bytes : List ℕ) (n : ℕ) (f : FrameAt line bytes n) where
   pub frame-long : length (take n bytes) ≡ n
   frame-long = length-take-le n bytes (frame-within line bytes n f)
 
+  -- of a kind that passes a test
+  pub test-formed : (q : ℕ → Bool) → (not (eqb n 0) && q (getD bytes 0 0)) ≡ true → (isFrame (take n bytes) ≡ true) × (q (getD (take n bytes) 0 0) ≡ true)
+  test-formed q e =
+      let h = both (not (eqb n 0)) (q (getD bytes 0 0)) e in
+      let some : 0 < n = omega (arith, eqb-false n 0 (not-true (eqb n 0) (h .0))) in
+      (ap isFrame (f .frame-is) ∙ line-formed line (omega (arith, f .length-is, some)), ap q (getD-take n bytes 0 0 some) ∙ h .1)
+
   -- of kind k
   pub kind-formed : (k : ℕ) → (not (eqb n 0) && eqb (getD bytes 0 0) k) ≡ true → (isFrame (take n bytes) ≡ true) × (getD (take n bytes) 0 0 ≡ k)
-  kind-formed k e =
-      let h = both (not (eqb n 0)) (eqb (getD bytes 0 0) k) e in
-      let some : 0 < n = omega (arith, eqb-false n 0 (not-true (eqb n 0) (h .0))) in
-      (ap isFrame (f .frame-is) ∙ line-formed line (omega (arith, f .length-is, some)), getD-take n bytes 0 0 some ∙ eqb-true (getD bytes 0 0) k (h .1))
+  kind-formed k e = let h = test-formed (λ m. eqb m k) e in (h .0, eqb-true (getD (take n bytes) 0 0) k (h .1))
 
 -- ---- what a turn leaves behind
 

@@ -1,4 +1,5 @@
-// A chunk of lines, played: the book is lent, payments are booked and limits changed in place, so that the table goes into other calls alone.
+// A chunk of lines, played: the book is lent, payments are booked, limits changed and single accounts stored in place, so that the table comes back from other
+// calls alone.
 ghost use Rattle.ledger.specs.Promise.{Sound};
 ghost use Rattle.play_lines.specs.Run.{RanIs};
 use call_change::item_slot;
@@ -16,6 +17,8 @@ use payment_booking::own_out;
 use payment_frame::transfer_at;
 use payment_parties::bank_slot;
 use payment_parties::find_parties;
+use play_message::amend;
+use play_message::amends_one;
 use play_message::ask;
 use play_message::plan;
 use table::Table;
@@ -29,7 +32,8 @@ pub struct Ran {
 }
 
 // Plays the whole lines of `lines` in order, as long as `out` has room for the longest answer line. A payment is booked here, on the table that
-// the loop owns, as `pay` books it, and the limits of a change are set so: the table does not come back from a call. Where n is 0, byte 0 is an earlier frame's.
+// the loop owns, as `pay` books it, the limits of a change are set so, and the account of a command that changes one: the table does not come back from a call.
+// Where n is 0, byte 0 is an earlier frame's.
 pub fn play_lines(
     mut t: Table,
     ids: &mut [u8; 32768],
@@ -87,6 +91,13 @@ pub fn play_lines(
             used = q.used;
             answer = q.answer;
             length = q.report_len;
+        } else if (n != 0) & amends_one(frame[0]) {
+            let a = amend(t, ids, days, used, &frame[..n]);
+            used = a.used;
+            answer = a.answer;
+            let j = a.place;
+            let x = a.account;
+            t.accounts[j] = x;
         } else {
             let s = play_frame::step(t, ids, days, used, &frame[..n], &mut report);
             t = s.table;

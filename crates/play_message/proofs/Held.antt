@@ -17,7 +17,7 @@ use Rattle.command.proofs.Command.{the-type}
 use Rattle.command.proofs.ByKind.{kind-command}
 
 -- the kind of the first command, 0 where there is none
-unfoldable first-kind : List Rule.Command → ℕ
+unfoldable pub first-kind : List Rule.Command → ℕ
 first-kind [] = 0
 first-kind (c ∷ cs) = kindByte (kindOf c)
 

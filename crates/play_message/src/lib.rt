@@ -1,17 +1,27 @@
-// Frames of limit messages, played past `step`, so that the table does not come back: a query leaves it as it is, and of a change the items come back.
+// Frames played past `step`, so that the table does not come back: a query leaves it as it is, of a change the items come back, and of a command that changes
+// one account that account.
 ghost use mathlib.Core.Path.{_≡_};
 ghost use mathlib.Core.Bool.{true};
 ghost use lib.ListN.{getD};
 ghost use Rattle.frame.specs.Frame.{isFrame, commandsOf};
-ghost use Rattle.ledger.specs.Promise.{Sound, Played};
+ghost use Rattle.ledger.specs.Promise.{Sound, Played, PlayedAt};
 ghost use Rattle.call_change.specs.Plan.{Planned};
+ghost use Rattle.play_message.specs.Kinds.{amendsOne};
+use account::Owner;
+use account::opened;
+use call_bank_limits::bank_limited;
 use call_change::Plan;
 use call_change::judge;
+use call_deletion::limit_deleted;
+use call_funds::funded;
+use call_funds::withdrawn;
 use call_query::Asked;
 use call_query::query;
 use command::Command;
 use command::parse;
+use ledger::Entered;
 use message_items::records;
+use table::Amended;
 use table::Table;
 
 // A query, as `step` plays it. Kind 09 is a query's and no other's, so the second arm is never taken.
@@ -66,6 +76,56 @@ pub fn plan(
             day: 0,
             second: 0,
             items: records(&t.codes, 0, accounts, types, values, 0),
+        },
+    }
+}
+
+// Whether a frame of this kind is played by `amend`.
+pub fn amends_one(kind: u8) -> bool
+    ensures { λ r. ⌜ r ≡ amendsOne kind ⌝ }
+{
+    (kind == 3) | (kind == 4) | (kind == 5) | (kind == 8)
+}
+
+// A call on the table alone: the book stays.
+fn entered(a: Amended, used: usize) -> Entered
+    ensures { λ r. ⌜ r ≡ record { answer = a .answer; used = used; place = a .place; account = a .account } ⌝ }
+{
+    let x = a.account;
+    Entered {
+        answer: a.answer,
+        used: used,
+        place: a.place,
+        account: x,
+    }
+}
+
+// A command that changes one account is played here, and the account is left to be stored by whoever owns the table. These kinds are those commands' and no
+// others', so the last arm is never taken.
+pub fn amend(
+    t: Table,
+    ids: &mut [u8; 32768],
+    days: &mut [u32; 1024],
+    used: usize,
+    frame: &[u8],
+) -> Entered
+    requires { ⌜ (isFrame (now frame) ≡ true) × (amendsOne (getD (now frame) 0 0) ≡ true) × Sound t (now ids) (now days) used ⌝ }
+    ensures { λ r. ⌜ PlayedAt (commandsOf (now (frame .entry))) t (now (ids .entry)) (now (days .entry)) used r (now (ids .exit)) (now (days .exit)) ⌝ }
+{
+    let order = parse(frame);
+    let command = order.command;
+    let id = order.id;
+    let accounts = order.accounts;
+    match command {
+        Command::Funding(c, a) => entered(funded(t, c, a), used),
+        Command::Withdrawal(c, a) => entered(withdrawn(t, c, a), used),
+        Command::BankLimits(c, l, p) => entered(bank_limited(t, c, l, p), used),
+        Command::Deletion(h, kind) => limit_deleted(t, ids, days, used, h, id, accounts, kind),
+        _ => Entered {
+            answer: 1,
+            used: used,
+            place: 0,
+            account: opened(0, Owner::Bank, 0, 0),
         },
     }
 }

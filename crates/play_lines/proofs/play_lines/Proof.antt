@@ -9,9 +9,10 @@ use lib.Seq.{length-take-le}
 use Rattle.table.proofs.Places.{length-mapped}
 use Rattle.call_payment.proofs.Parties.{all-sized}
 use Rattle.call_payment.proofs.Calls.{out-room, own-out-room, in-room, own-in-room}
+use Rattle.play_message.specs.Kinds.{amendsOne}
 use Rattle.lines.proofs.Next.{next-is}
 use Rattle.play_lines.proofs.Laws.{small, same-report, begin, turn, all-chosen}
-use Rattle.play_lines.proofs.Turns.{frame-long, kind-formed, set-none, set-one}
+use Rattle.play_lines.proofs.Turns.{frame-long, test-formed, kind-formed, set-none, set-one}
 use Rattle.play_lines.proofs.play_lines.Proof.Loop.{Inv-loop2, μ-loop2, Inv-loop, μ-loop, ahead, roomy, at, line, bytes, here, within, table, sound, good, long, front, sought, sides, accepted, last, last2, last3, last4, went}
 use Rattle.play_lines.proofs.play_lines.Statement.{statement}
 use Rattle.play_lines.proofs.play_lines.Tie as tie
@@ -164,8 +165,8 @@ own-in-requires : tie.Need-own-in-requires Inv-loop2 μ-loop2 Inv-loop μ-loop
 own-in-requires c κs = let x3 = c .before in let x2 = last3 x3 in let x1 = last2 x2 in let a = accepted (last x1) in
     (a .in-range, own-in-room a (x1 .bank-out .result) (x1 .bank-out .ensures) (x2 .own-out .result) (x2 .own-out .ensures) (x3 .bank-in .result) (x3 .bank-in .ensures))
 
-mul-t71 : tie.Need-mul-t71 Inv-loop2 μ-loop2 Inv-loop μ-loop
-mul-t71 c = omega (arith, sought (sides (last (last2 (last3 (last4 c))))))
+mul-t74 : tie.Need-mul-t74 Inv-loop2 μ-loop2 Inv-loop μ-loop
+mul-t74 c = omega (arith, sought (sides (last (last2 (last3 (last4 c))))))
 
 element-set-from-t-4 : tie.Need-element-set-from-t-4 Inv-loop2 μ-loop2 Inv-loop μ-loop
 element-set-from-t-4 c = omega (arith, sought (sides (last (last2 (last3 (last4 c))))))
@@ -204,8 +205,8 @@ element-copy-out-set-item c = omega (arith, c .item-slot .ensures .below)
 set-item-requires : tie.Need-set-item-requires Inv-loop2 μ-loop2 Inv-loop μ-loop
 set-item-requires c κs = search needs
 
-mul-t110 : tie.Need-mul-t110 Inv-loop2 μ-loop2 Inv-loop μ-loop
-mul-t110 c = omega (arith, c .before .before .item-slot .ensures .below)
+mul-t113 : tie.Need-mul-t113 Inv-loop2 μ-loop2 Inv-loop μ-loop
+mul-t113 c = omega (arith, c .before .before .item-slot .ensures .below)
 
 element-set-from-t-5 : tie.Need-element-set-from-t-5 Inv-loop2 μ-loop2 Inv-loop μ-loop
 element-set-from-t-5 c = omega (arith, c .before .before .item-slot .ensures .below)
@@ -241,17 +242,39 @@ ask-requires : tie.Need-ask-requires Inv-loop2 μ-loop2 Inv-loop μ-loop
 ask-requires c κs = let b = c .before .before .before .before in let f = b .before .before .before in
     let q = kind-formed (line f) _ _ (here f) 9 (b .if4 .taken) in (q .0, q .1, sound f)
 
+array-read-amends-one : tie.Need-array-read-amends-one Inv-loop2 μ-loop2 Inv-loop μ-loop
+array-read-amends-one c = omega arith
+
+amends-one-requires : tie.Need-amends-one-requires Inv-loop2 μ-loop2 Inv-loop μ-loop
+amends-one-requires c κs = search needs
+
 array-share-prefix-frame-5 : tie.Need-array-share-prefix-frame-5 Inv-loop2 μ-loop2 Inv-loop μ-loop
-array-share-prefix-frame-5 c = within (c .before .before .before .before .before)
+array-share-prefix-frame-5 c = within (c .before .before .before .before .before .before .before)
+
+slice-aggregate-amend : tie.Need-slice-aggregate-amend Inv-loop2 μ-loop2 Inv-loop μ-loop
+slice-aggregate-amend c = let f = c .before .before .before .before .before .before .before .before in sym (frame-long (line f) _ _ (here f))
+
+amend-requires : tie.Need-amend-requires Inv-loop2 μ-loop2 Inv-loop μ-loop
+amend-requires c κs = let b = c .before .before .before in let f = b .before .before .before .before .before in
+    let q = test-formed (line f) _ _ (here f) amendsOne (rw (b .before .amends-one .ensures) at (b .if5 .taken)) in (q .0, q .1, sound f)
+
+mul-x-2 : tie.Need-mul-x-2 Inv-loop2 μ-loop2 Inv-loop μ-loop
+mul-x-2 c = omega (arith, c .before .amend .ensures .below)
+
+element-set-from-x : tie.Need-element-set-from-x Inv-loop2 μ-loop2 Inv-loop μ-loop
+element-set-from-x c = omega (arith, c .before .amend .ensures .below)
+
+array-share-prefix-frame-6 : tie.Need-array-share-prefix-frame-6 Inv-loop2 μ-loop2 Inv-loop μ-loop
+array-share-prefix-frame-6 c = within (c .before .before .before .before .before .before .before)
 
 slice-aggregate-step : tie.Need-slice-aggregate-step Inv-loop2 μ-loop2 Inv-loop μ-loop
-slice-aggregate-step c = let f = c .before .before .before .before .before .before in sym (frame-long (line f) _ _ (here f))
+slice-aggregate-step c = let f = c .before .before .before .before .before .before .before .before in sym (frame-long (line f) _ _ (here f))
 
 slice-aggregate-step-2 : tie.Need-slice-aggregate-step-2 Inv-loop2 μ-loop2 Inv-loop μ-loop
-slice-aggregate-step-2 c = sym (at (c .before .before .before .before .before .before .before) .before .loop .inv .3)
+slice-aggregate-step-2 c = sym (at (c .before .before .before .before .before .before .before .before .before) .before .loop .inv .3)
 
 step-requires : tie.Need-step-requires Inv-loop2 μ-loop2 Inv-loop μ-loop
-step-requires c κs = sound (c .before .before .before .before .before .before .before)
+step-requires c κs = sound (c .before .before .before .before .before .before .before .before .before)
 
 slice-aggregate-write-line : tie.Need-slice-aggregate-write-line Inv-loop2 μ-loop2 Inv-loop μ-loop
 slice-aggregate-write-line c = let g = c .before .before in sym (same-report _ _ _ _ _ _ _ _ _ _ (went g .played) ∙ at (g .before) .before .loop .inv .3)
@@ -360,7 +383,7 @@ play-lines-spec =
     mul-own-in
     element-copy-out-own-in
     own-in-requires
-    mul-t71
+    mul-t74
     element-set-from-t-4
     array-read-if3
     array-share-prefix-frame-3
@@ -373,7 +396,7 @@ play-lines-spec =
     mul-set-item
     element-copy-out-set-item
     set-item-requires
-    mul-t110
+    mul-t113
     element-set-from-t-5
     add-k
     loop2-less
@@ -383,7 +406,14 @@ play-lines-spec =
     slice-aggregate-ask
     slice-aggregate-ask-2
     ask-requires
+    array-read-amends-one
+    amends-one-requires
     array-share-prefix-frame-5
+    slice-aggregate-amend
+    amend-requires
+    mul-x-2
+    element-set-from-x
+    array-share-prefix-frame-6
     slice-aggregate-step
     slice-aggregate-step-2
     step-requires

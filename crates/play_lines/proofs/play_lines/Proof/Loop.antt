@@ -122,7 +122,8 @@ last3 c = c .before .before
 abbrev pub last4 : tie.After-own-in Inv-loop2 μ-loop2 Inv-loop μ-loop → tie.After-bank-in Inv-loop2 μ-loop2 Inv-loop μ-loop
 last4 c = c .before .before
 
--- ---- what the turn left behind: of a payment accepted, of one refused, of a change, of a query, of any other frame or none
+-- ---- what the turn left behind: of a payment accepted, of one refused, of a change, of a query, of a command that changes one account, of any other
+-- frame or none
 
 pub went : (c : tie.Joined1 Inv-loop2 μ-loop2 Inv-loop μ-loop) → let f = c .before in let v = at f .before .loop in
     Turned (line f) (v .t) (v .ids) (v .days) (v .used) (v .report) (c .if1 .t) (c .if1 .answer) (c .if1 .used) (c .if1 .length) (c .if1 .ids) (c .if1 .days) (c .if1 .report)
@@ -149,7 +150,11 @@ went c =
     (record { codes-long = ap length (w .7 .inv .1 .codes-same) ∙ v .inv .5 .codes-long; accounts-long = w .7 .inv .1 .accounts-long }) _ _ _ _ _ _ _ (w .9) (w .10) (w .11) (w .12) (w .13) (w .14) (w .15))
     (⊎-elim
     (λ w. turned (line f) (v .t) (v .ids) (v .days) (v .used) (v .report) (rw (here f .frame-is) at (w .7 .ensures)) (v .inv .5) _ _ _ _ _ _ _ (w .9) (w .10) (w .11) (w .12) (w .13) (w .14) (w .15))
+    (⊎-elim
     (λ w.
-    turned (line f) (v .t) (v .ids) (v .days) (v .used) (v .report) (rw (here f .frame-is) at (w .7 .ensures))
-    (record { codes-long = search (needs, w .7 .ok .1 .1 .1 .0 .1 .1 .0 .1); accounts-long = search (needs, length-mapped, w .7 .ok .1 .1 .1 .0 .1 .1 .1 .0 .1) }) _ _ _ _ _ _ _ (w .10) (w .11) (w .12) (w .13) (w .14) (w .15) (w .16)))))
+    turned (line f) (v .t) (v .ids) (v .days) (v .used) (v .report) (rw (here f .frame-is) at (w .8 .ensures .played (v .report)))
+    (record { codes-long = v .inv .5 .codes-long; accounts-long = simp length-set (long f) }) _ _ _ _ _ _ _ (w .10) (w .11) (w .12) (w .13) (w .14) (w .15) (w .16))
+    (λ w.
+    turned (line f) (v .t) (v .ids) (v .days) (v .used) (v .report) (rw (here f .frame-is) at (w .9 .ensures))
+    (record { codes-long = search (needs, w .9 .ok .1 .1 .1 .0 .1 .1 .0 .1); accounts-long = search (needs, length-mapped, w .9 .ok .1 .1 .1 .0 .1 .1 .1 .0 .1) }) _ _ _ _ _ _ _ (w .12) (w .13) (w .14) (w .15) (w .16) (w .17) (w .18))))))
     (c .if1 .came)
