@@ -4,7 +4,7 @@ use crate::account::{Method, Moment};
 use crate::book::Id;
 use crate::frame;
 
-/// The header of a limit message.
+/// The header of a message.
 #[derive(Clone, Copy, Debug)]
 pub struct Header {
     pub sender: u32,
@@ -18,12 +18,65 @@ pub enum Transfer {
     Debit,
 }
 
-pub type AccountId = [u8; 10];
+/// Characters of an account id.
+pub const ACCOUNT_ID: usize = 10;
+pub type AccountId = [u8; ACCOUNT_ID];
 /// One item of a change: account id, type, value.
 pub type Item = [u8; 19];
 
 pub const MOST_ITEMS: usize = 16;
+pub const MOST_CONDITIONS: usize = 8;
 const LAST_SECOND: u32 = 86_399;
+
+/// What a condition of a search says of its text and an account's id.
+#[derive(Clone, Copy, Debug, PartialEq, Eq)]
+pub enum Mode {
+    Equal,
+    Contains,
+    Lacks,
+}
+
+impl Mode {
+    fn from_byte(byte: u8) -> Option<Mode> {
+        match byte {
+            1 => Some(Mode::Equal),
+            2 => Some(Mode::Contains),
+            3 => Some(Mode::Lacks),
+            _ => None,
+        }
+    }
+
+    /// Whether a text may be so long.
+    fn takes(self, length: usize) -> bool {
+        match self {
+            Mode::Equal => length == ACCOUNT_ID,
+            Mode::Contains | Mode::Lacks => (1..=ACCOUNT_ID).contains(&length),
+        }
+    }
+}
+
+/// One condition of a search; the text is any bytes.
+#[derive(Clone, Copy, Debug)]
+pub struct Condition<'a> {
+    pub mode: Mode,
+    pub text: &'a [u8],
+}
+
+impl Condition<'_> {
+    /// Whether an account of this id meets the condition.
+    pub fn holds_of(&self, id: &AccountId) -> bool {
+        match self.mode {
+            Mode::Equal => id == self.text,
+            Mode::Contains => stands_in(self.text, id),
+            Mode::Lacks => !stands_in(self.text, id),
+        }
+    }
+}
+
+/// Whether the text stands in the id, wherever it begins.
+fn stands_in(text: &[u8], id: &AccountId) -> bool {
+    id.windows(text.len()).any(|part| part == text)
+}
 
 #[derive(Debug)]
 pub enum Command<'a> {
@@ -69,6 +122,10 @@ pub enum Command<'a> {
     },
     DayOpening {
         day: u32,
+    },
+    Search {
+        header: Header,
+        conditions: Vec<Condition<'a>>,
     },
 }
 
@@ -120,6 +177,10 @@ impl<'a> Command<'a> {
             },
             0x0a => Command::DayOpening {
                 day: fields.whole()?,
+            },
+            0x0b => Command::Search {
+                header: fields.header()?,
+                conditions: fields.conditions()?,
             },
             _ => return None,
         };
@@ -198,5 +259,26 @@ impl<'a> Fields<'a> {
         }
         self.rest = surplus;
         Some(elements)
+    }
+
+    /// A count of 1 to 8 and so many conditions, each as long as it says.
+    fn conditions(&mut self) -> Option<Vec<Condition<'a>>> {
+        let count = usize::from(self.byte()?);
+        if !(1..=MOST_CONDITIONS).contains(&count) {
+            return None;
+        }
+        (0..count).map(|_| self.condition()).collect()
+    }
+
+    /// Mode, length and that much text.
+    fn condition(&mut self) -> Option<Condition<'a>> {
+        let mode = self.byte().and_then(Mode::from_byte)?;
+        let length = usize::from(self.byte()?);
+        if !mode.takes(length) {
+            return None;
+        }
+        let (text, rest) = self.rest.split_at_checked(length)?;
+        self.rest = rest;
+        Some(Condition { mode, text })
     }
 }

@@ -20,7 +20,7 @@ pub struct Ledger {
     places: Box<[u8]>,
     pub(crate) day: u32,
     pub(crate) book: Book,
-    /// The report of the query just accepted.
+    /// The report of the query or search just accepted.
     pub(crate) report: Vec<u8>,
 }
 
@@ -92,6 +92,10 @@ impl Ledger {
             } => self.delete(header, account, kind),
             Command::Query { ref header, ids } => self.query(header, ids),
             Command::DayOpening { day } => self.open_day(day),
+            Command::Search {
+                ref header,
+                ref conditions,
+            } => self.search(header, conditions),
         }
     }
 

@@ -1,11 +1,12 @@
-//! Limit messages: change, deletion and query.
+//! Messages: change, deletion, query and search.
 
 use crate::account::{Limit, Moment, LPO, LTK};
 use crate::answer::{require, Answer, Refusal, BLOCK_ID_UNKNOWN, BLOCK_NO_RIGHT};
-use crate::command::{split_item, AccountId, Header, Item, MOST_ITEMS};
+use crate::command::{split_item, AccountId, Condition, Header, Item, MOST_ITEMS};
 use crate::frame;
 use crate::ledger::{is_limit, Ledger};
 use crate::report;
+use crate::write;
 
 /// One item of a change or deletion, with its names looked up.
 #[derive(Clone, Copy, Default)]
@@ -61,6 +62,26 @@ impl Ledger {
         self.enter(header)?;
         self.write_report(sender, ids);
         Ok(())
+    }
+
+    pub(crate) fn search(&mut self, header: &Header, conditions: &[Condition]) -> Answer {
+        let sender = self.find(header.sender)?;
+        self.check_id_unused(header)?;
+        self.check_header(header)?;
+        let selected = self.select(conditions);
+        require(!selected.is_empty(), Refusal::NoIdFound)?;
+        self.enter(header)?;
+        self.write_accounts(sender, &selected);
+        Ok(())
+    }
+
+    /// Places of the accounts that meet at least one condition, in table order.
+    fn select(&self, conditions: &[Condition]) -> Vec<usize> {
+        let is_selected = |&place: &usize| {
+            let id = write::account_id(self.accounts[place].code);
+            conditions.iter().any(|condition| condition.holds_of(&id))
+        };
+        (0..self.accounts.len()).filter(is_selected).collect()
     }
 
     /// The checks of a change's or deletion's header; gives the sender's place.
@@ -136,6 +157,19 @@ impl Ledger {
                 None => report.push(BLOCK_ID_UNKNOWN),
                 Some(place) if !self.may_ask(sender, place) => report.push(BLOCK_NO_RIGHT),
                 Some(place) => report::write_block(&self.accounts[place], &mut report),
+            }
+        }
+        self.report = report;
+    }
+
+    fn write_accounts(&mut self, sender: usize, selected: &[usize]) {
+        let mut report = std::mem::take(&mut self.report);
+        report.push(selected.len() as u8);
+        for &place in selected {
+            if self.may_ask(sender, place) {
+                report::write_account(&self.accounts[place], &mut report);
+            } else {
+                report.push(BLOCK_NO_RIGHT);
             }
         }
         self.report = report;

@@ -1,12 +1,15 @@
-//! Blocks of a query's report.
+//! Blocks of a query's report, and of a search's.
 
 use crate::account::{Account, Limit, ICDT, LPO, LTK};
-use crate::command::MOST_ITEMS;
+use crate::ledger::MOST_ACCOUNTS;
+use crate::write;
 
-/// Bytes of the block of an account: 0 and two limits.
-pub const FULL_BLOCK: usize = 57;
-/// A count and 16 full blocks.
-pub const LONGEST_REPORT: usize = 1 + MOST_ITEMS * FULL_BLOCK;
+/// Bytes of the block of an account in a query's report: 0 and two limits.
+pub const LIMITS_BLOCK: usize = 57;
+/// The same in a search's: 0, id, state and four turnovers.
+pub const ACCOUNT_BLOCK: usize = 51;
+/// A count and the blocks of all accounts; 16 blocks of a query are fewer bytes.
+pub const LONGEST_REPORT: usize = 1 + MOST_ACCOUNTS * ACCOUNT_BLOCK;
 
 /// How far a limit in use is used.
 struct Use {
@@ -37,6 +40,16 @@ pub fn write_block(account: &Account, report: &mut Vec<u8>) {
     write_limit(account.limits[LPO], report, |lpo| {
         use_of_lpo(lpo, account.turnovers[ICDT])
     });
+}
+
+/// Appends the block of an account that was searched for.
+pub fn write_account(account: &Account, report: &mut Vec<u8>) {
+    report.push(0);
+    report.extend(write::account_id(account.code));
+    report.extend(account.state().to_be_bytes());
+    for turnover in account.turnovers {
+        report.extend(turnover.to_be_bytes());
+    }
 }
 
 fn write_limit(limit: Limit, report: &mut Vec<u8>, use_of: impl Fn(i64) -> Option<Use>) {

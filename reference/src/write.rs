@@ -12,12 +12,24 @@ pub const DEBIT: u8 = 1;
 pub const LTK_TYPE: u8 = 1;
 pub const LPO_TYPE: u8 = 2;
 
+/// Modes of a search's conditions.
+pub const EQUAL: u8 = 1;
+pub const CONTAINS: u8 = 2;
+pub const LACKS: u8 = 3;
+
 /// One item of a change.
 #[derive(Clone, Copy, Debug)]
 pub struct ChangeItem {
     pub account: AccountId,
     pub kind: u8,
     pub value: i64,
+}
+
+/// One condition of a search.
+#[derive(Clone, Debug)]
+pub struct Sought {
+    pub mode: u8,
+    pub text: Vec<u8>,
 }
 
 pub fn bank(code: u32) -> Vec<u8> {
@@ -74,6 +86,17 @@ pub fn query(header: &Header, ids: &[AccountId]) -> Vec<u8> {
 
 pub fn day_opening(day: u32) -> Vec<u8> {
     frame(0x0a, &[&day.to_be_bytes()])
+}
+
+pub fn search(header: &Header, conditions: &[Sought]) -> Vec<u8> {
+    let mut bytes = message(0x0b, header);
+    bytes.push(conditions.len() as u8);
+    for condition in conditions {
+        bytes.push(condition.mode);
+        bytes.push(condition.text.len() as u8);
+        bytes.extend(&condition.text);
+    }
+    bytes
 }
 
 /// The frame as a line, without its end.

@@ -1,5 +1,7 @@
 //! Random lists are the same for the same seed and go deep.
 
+use reference::command::{Command, Condition, Mode};
+use reference::frame::{decode, LONGEST_FRAME};
 use reference::generate::{generate, Workload};
 use reference::stream::answers;
 use reference::tally::Tally;
@@ -8,19 +10,21 @@ fn lines_in(text: &[u8]) -> usize {
     text.split_inclusive(|&byte| byte == b'\n').count()
 }
 
-fn tally_of(answers: &[u8]) -> Tally {
-    let mut tally = Tally::default();
-    for answer in answers.split(|&byte| byte == b'\n') {
-        tally.count(answer);
-    }
-    tally
+fn lines_of(text: &[u8]) -> impl Iterator<Item = &[u8]> {
+    text.split(|&byte| byte == b'\n')
 }
 
-fn accepted(answers: &[u8]) -> u64 {
-    tally_of(answers)
-        .counts()
-        .next()
-        .map_or(0, |(_, count)| count)
+fn count(list: &[u8], tally: &mut Tally) {
+    for (line, answer) in lines_of(list).zip(lines_of(&answers(list))) {
+        tally.count(line, answer);
+    }
+}
+
+fn accepted(list: &[u8]) -> u64 {
+    let mut tally = Tally::default();
+    count(list, &mut tally);
+    let accepted = tally.counts().next();
+    accepted.map_or(0, |(_, count)| count)
 }
 
 #[test]
@@ -35,21 +39,47 @@ fn the_same_seed_gives_the_same_list() {
 
 #[test]
 fn payments_are_mostly_accepted() {
-    let answers = answers(&generate(1, 5_000, Workload::Payments));
-    assert!(accepted(&answers) > 4_700);
+    assert!(accepted(&generate(1, 5_000, Workload::Payments)) > 4_700);
 }
 
 #[test]
 fn the_mix_is_mostly_accepted() {
-    let answers = answers(&generate(1, 20_000, Workload::Mix));
-    assert!(accepted(&answers) > 16_000);
+    assert!(accepted(&generate(1, 20_000, Workload::Mix)) > 16_000);
 }
 
 #[test]
 fn the_profiles_reach_every_answer() {
-    let mut all = Vec::new();
-    for seed in 0..14 {
-        all.extend(answers(&generate(seed, 3_000, Workload::All)));
+    let mut tally = Tally::default();
+    for seed in 0..24 {
+        count(&generate(seed, 3_000, Workload::All), &mut tally);
     }
-    assert!(tally_of(&all).is_complete());
+    assert!(tally.is_complete());
+}
+
+/// The mode of a search's conditions, if all have the same.
+fn one_mode(line: &[u8]) -> Option<Mode> {
+    let mut buffer = [0; LONGEST_FRAME];
+    let Command::Search { conditions, .. } = Command::read(decode(line, &mut buffer)?)? else {
+        return None;
+    };
+    let mode = conditions[0].mode;
+    let is_same = |condition: &Condition| condition.mode == mode;
+    conditions.iter().all(is_same).then_some(mode)
+}
+
+#[test]
+fn each_mode_by_itself_selects_or_not() {
+    let mut reached = Vec::new();
+    for seed in 0..16 {
+        let list = generate(seed, 3_000, Workload::All);
+        for (line, answer) in lines_of(&list).zip(lines_of(&answers(&list))) {
+            if let (Some(mode), [b'0', b'0', ..] | b"21") = (one_mode(line), answer) {
+                reached.push((mode, answer[0]));
+            }
+        }
+    }
+    for mode in [Mode::Equal, Mode::Contains, Mode::Lacks] {
+        assert!(reached.contains(&(mode, b'0')), "{mode:?}");
+        assert!(reached.contains(&(mode, b'2')), "{mode:?}");
+    }
 }

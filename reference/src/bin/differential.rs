@@ -80,14 +80,25 @@ impl Summary {
     fn print(&self) {
         println!("{} lines compared in {} lists", self.lines, self.lists);
         for (number, count) in self.tally.counts() {
-            let what = if number < 23 { "answer" } else { "block" };
-            println!("{what} {number:2}: {count}");
+            println!("{} {number:2}: {count}", name(number));
         }
+        for (number, count) in self.tally.searches() {
+            println!("search, {} {number:2}: {count}", name(number));
+        }
+        println!("search, accounts shown: {}", self.tally.shown());
         if !self.tally.is_complete() {
             println!("not every answer and block was reached");
         }
         let tests = self.lists + 1;
         println!("{} passed, {} failed", tests - self.failed(), self.failed());
+    }
+}
+
+fn name(number: usize) -> &'static str {
+    if number < 23 {
+        "answer"
+    } else {
+        "block"
     }
 }
 
@@ -106,9 +117,9 @@ fn run(arguments: &Arguments) -> Summary {
         let list = generate(seed, arguments.lines, Workload::All);
         let expected = stream::answers(&list);
         summary.lists += 1;
-        for answer in lines_of(&expected) {
+        for (line, answer) in lines_of(&list).zip(lines_of(&expected)) {
             summary.lines += 1;
-            summary.tally.count(answer);
+            summary.tally.count(line, answer);
         }
         if let Err(difference) = compare(&arguments.program, &list, &expected) {
             println!("seed {seed} ({}): {difference}", profile_of(seed));

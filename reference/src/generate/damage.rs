@@ -2,11 +2,13 @@
 
 use super::scenario::Scenario;
 use crate::frame::LONGEST_LINE;
-use crate::write;
+use crate::write::{self, EQUAL};
 
-/// Where each part of a limit message stands.
+/// Where each part of a message stands.
 const SECOND: usize = 43;
 const COUNT: usize = 47;
+/// Where a search's first condition begins.
+const CONDITIONS: usize = 48;
 
 impl Scenario {
     /// A line made from a good frame by one damage.
@@ -25,8 +27,8 @@ impl Scenario {
 
     fn damage_frame(&mut self, frame: &mut Vec<u8>) {
         match self.random.below(8) {
-            0 => frame[0] = self.random.pick(&[0, 0x0b, 0x10, 0xff]),
-            1 => frame[0] = 1 + self.random.below(10) as u8,
+            0 => frame[0] = self.random.pick(&[0, 0x0c, 0x10, 0xff]),
+            1 => frame[0] = 1 + self.random.below(11) as u8,
             2 => frame.push(self.random.byte()),
             3 => frame.truncate(self.random.below(frame.len() + 1)),
             4 => frame.extend(frame.clone()),
@@ -35,7 +37,7 @@ impl Scenario {
     }
 
     /// Makes a field wrong that the frame's kind has.
-    fn damage_field(&mut self, frame: &mut [u8]) {
+    fn damage_field(&mut self, frame: &mut Vec<u8>) {
         let kind = frame[0];
         let codes: &[usize] = match kind {
             0x02 => &[1, 7],
@@ -64,11 +66,56 @@ impl Scenario {
                 let counts = [0, 17, 255, count.wrapping_sub(1), count + 1, count + 16];
                 frame[COUNT] = self.random.pick(&counts);
             }
-            0x07..=0x09 => {
+            0x0b if self.random.percent(75) => self.damage_conditions(frame),
+            0x07..=0x09 | 0x0b => {
                 let second: u32 = self.random.pick(&[86_400, 86_401, 1 << 24, u32::MAX]);
                 frame[SECOND..SECOND + 4].copy_from_slice(&second.to_be_bytes());
             }
             _ => wrong(frame, 1, 0x2f),
+        }
+    }
+
+    /// Makes the count, a mode or a length of a search wrong.
+    fn damage_conditions(&mut self, frame: &mut Vec<u8>) {
+        let count = frame[COUNT];
+        let mut place = CONDITIONS;
+        for _ in 0..self.random.below(count.into()) {
+            place += 2 + usize::from(frame[place + 1]);
+        }
+        let length = frame[place + 1];
+        let text = place + 2..place + 2 + usize::from(length);
+        match self.random.below(8) {
+            0 => {
+                let counts = [0, 9, 255, count - 1, count + 1, count + 8];
+                frame[COUNT] = self.random.pick(&counts);
+            }
+            1 => frame[place] = self.random.pick(&[0, 4, b'1', 255]),
+            2 => frame[place] = self.random.pick(&[1, 2, 3]),
+            3 => {
+                let lengths = [0, 11, 255, length - 1, length + 1, length + 8];
+                frame[place + 1] = self.random.pick(&lengths);
+            }
+            // The length fits the text, but not the mode.
+            4 => {
+                frame[place] = EQUAL;
+                frame[place + 1] = length - 1;
+                frame.remove(text.start);
+            }
+            5 => {
+                frame[place + 1] = length + 1;
+                frame.insert(text.end, self.random.byte());
+            }
+            6 => {
+                frame[place + 1] = 0;
+                frame.drain(text);
+            }
+            // Nine conditions, or one more than the count says.
+            _ => {
+                let one: Vec<u8> = frame[place..text.end].into();
+                let times = self.random.pick(&[1, 9 - count]);
+                (0..times).for_each(|_| frame.extend(&one));
+                frame[COUNT] = self.random.pick(&[count, count + times]);
+            }
         }
     }
 
@@ -133,8 +180,8 @@ impl Scenario {
 
     /// A frame of right kind and length with random bytes in it.
     fn random_frame(&mut self) -> Vec<u8> {
-        const LENGTHS: [usize; 10] = [7, 15, 15, 15, 23, 22, 67, 58, 58, 5];
-        let kind = self.random.below(10);
+        const LENGTHS: [usize; 11] = [7, 15, 15, 15, 23, 22, 67, 58, 58, 5, 60];
+        let kind = self.random.below(LENGTHS.len());
         let mut frame: Vec<u8> = (0..LENGTHS[kind]).map(|_| self.random.byte()).collect();
         frame[0] = kind as u8 + 1;
         if self.random.percent(50) {

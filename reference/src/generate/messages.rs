@@ -1,11 +1,11 @@
-//! Frames of limit messages.
+//! Frames of messages.
 
 use super::scenario::{Scenario, LAST_SECOND};
 use super::steps::EDGES;
 use crate::account::{Account, Moment, ICDT, TOP_VALUE};
 use crate::book::Id;
-use crate::command::{AccountId, Header, MOST_ITEMS};
-use crate::write::{self, ChangeItem, LPO_TYPE, LTK_TYPE};
+use crate::command::{AccountId, Header, ACCOUNT_ID, MOST_CONDITIONS, MOST_ITEMS};
+use crate::write::{self, ChangeItem, Sought, CONTAINS, EQUAL, LACKS, LPO_TYPE, LTK_TYPE};
 
 /// Ids out of so many last ones are written again.
 const RECENT: usize = 1_500;
@@ -60,6 +60,96 @@ impl Scenario {
             })
             .collect();
         write::query(&header, &ids)
+    }
+
+    pub fn search(&mut self) -> Vec<u8> {
+        let sender = if self.random.percent(50) {
+            self.head_bank()
+        } else {
+            self.party()
+        };
+        let header = self.header(sender);
+        let mode = self.random.pick(&[EQUAL, CONTAINS, LACKS]);
+        let one_mode = self.random.percent(30);
+        let only_strange = self.random.percent(10);
+        let conditions: Vec<Sought> = (0..self.condition_count())
+            .map(|_| {
+                let mode = match self.random.below(4) {
+                    _ if one_mode => mode,
+                    0 => EQUAL,
+                    1 => LACKS,
+                    _ => CONTAINS,
+                };
+                let text = self.text(mode, only_strange);
+                Sought { mode, text }
+            })
+            .collect();
+        write::search(&header, &conditions)
+    }
+
+    fn condition_count(&mut self) -> usize {
+        if self.random.percent(60) {
+            1 + self.random.below(2)
+        } else {
+            1 + self.random.below(MOST_CONDITIONS)
+        }
+    }
+
+    /// A text that often stands in an id, or hardly ever does.
+    fn text(&mut self, mode: u8, is_strange: bool) -> Vec<u8> {
+        let id = if is_strange || self.random.percent(10) {
+            self.strange_account_id()
+        } else {
+            write::account_id(self.party())
+        };
+        if mode == EQUAL {
+            return id.into();
+        }
+        let begin = self.random.below(ACCOUNT_ID);
+        let end = begin + 1 + self.random.below(ACCOUNT_ID - begin);
+        match self.random.below(16) {
+            _ if is_strange => self.strange_text(),
+            0 => id.into(),
+            // The last places, and those before the last.
+            1 | 2 => id[begin..].into(),
+            3 => id[begin..ACCOUNT_ID - 1]
+                .iter()
+                .chain(b"1")
+                .copied()
+                .collect(),
+            // From the end on to the beginning.
+            4 => [&id[begin..], &id[..begin]].concat(),
+            5 => [&id[ACCOUNT_ID - 1..], b"1"].concat(),
+            6 => id[..end].into(),
+            7 => self.strange_text(),
+            8 | 9 => (0..1 + self.random.below(3))
+                .map(|_| self.digit())
+                .collect(),
+            10 => (0..1 + self.random.below(6))
+                .map(|_| b'0' + self.random.below(2) as u8)
+                .collect(),
+            11 => {
+                let mut text = id[begin..end].to_vec();
+                let place = self.random.below(text.len());
+                text[place] = self.digit();
+                text
+            }
+            _ => id[begin..end].into(),
+        }
+    }
+
+    fn digit(&mut self) -> u8 {
+        b'0' + self.random.below(10) as u8
+    }
+
+    /// Any bytes.
+    fn strange_text(&mut self) -> Vec<u8> {
+        let length = 1 + self.random.below(ACCOUNT_ID);
+        let mut text: Vec<u8> = (0..length).map(|_| self.random.byte()).collect();
+        if self.random.percent(30) {
+            text.fill(self.random.pick(b"\x00\n\xffuU"));
+        }
+        text
     }
 
     /// Mostly a bank with branches.

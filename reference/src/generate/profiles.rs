@@ -4,6 +4,9 @@ use super::scenario::Scenario;
 use crate::account::{Account, TOP_VALUE};
 use crate::write::{self, ChangeItem, LPO_TYPE, LTK_TYPE};
 
+/// Kinds of frames.
+const KINDS: usize = 11;
+
 /// How often, relative to each other, the kinds of lines come.
 struct Weights {
     bank: usize,
@@ -16,6 +19,7 @@ struct Weights {
     deletion: usize,
     query: usize,
     day_opening: usize,
+    search: usize,
     damaged: usize,
     noise: usize,
 }
@@ -29,6 +33,7 @@ pub struct Profile {
     fundings: usize,
     flaws: usize,
     large: usize,
+    alike: usize,
     weights: Weights,
 }
 
@@ -39,6 +44,7 @@ const GENERAL: Profile = Profile {
     fundings: 1,
     flaws: 6,
     large: 3,
+    alike: 0,
     weights: Weights {
         bank: 10,
         branch: 20,
@@ -50,12 +56,13 @@ const GENERAL: Profile = Profile {
         deletion: 50,
         query: 100,
         day_opening: 20,
+        search: 80,
         damaged: 30,
         noise: 10,
     },
 };
 
-static PROFILES: [Profile; 7] = [
+static PROFILES: [Profile; 8] = [
     GENERAL,
     Profile {
         name: "full table",
@@ -80,8 +87,9 @@ static PROFILES: [Profile; 7] = [
             payment: 50,
             change: 250,
             deletion: 100,
-            query: 600,
+            query: 400,
             day_opening: 0,
+            search: 400,
             ..GENERAL.weights
         },
         ..GENERAL
@@ -93,6 +101,7 @@ static PROFILES: [Profile; 7] = [
         fundings: 20,
         flaws: 2,
         large: 75,
+        alike: 0,
         weights: Weights {
             bank: 1,
             branch: 1,
@@ -112,6 +121,7 @@ static PROFILES: [Profile; 7] = [
         fundings: 240,
         flaws: 4,
         large: 30,
+        alike: 0,
         weights: Weights {
             funding: 500,
             withdrawal: 200,
@@ -130,6 +140,20 @@ static PROFILES: [Profile; 7] = [
             deletion: 140,
             query: 240,
             day_opening: 40,
+            search: 140,
+            ..GENERAL.weights
+        },
+        ..GENERAL
+    },
+    Profile {
+        name: "searches",
+        banks: 2,
+        branches: 60,
+        alike: 60,
+        weights: Weights {
+            payment: 300,
+            day_opening: 40,
+            search: 700,
             ..GENERAL.weights
         },
         ..GENERAL
@@ -154,6 +178,7 @@ pub fn play(scenario: &mut Scenario, seed: u64) {
     let profile = of_seed(seed);
     scenario.flaws = profile.flaws;
     scenario.large = profile.large;
+    scenario.alike = profile.alike;
     begin(scenario, profile);
     while !scenario.is_done() {
         step(scenario, &profile.weights);
@@ -230,10 +255,11 @@ fn step(scenario: &mut Scenario, weights: &Weights) {
         weights.deletion,
         weights.query,
         weights.day_opening,
+        weights.search,
     ]);
     match roll {
         0 => {
-            let kind = scenario.random.below(10);
+            let kind = scenario.random.below(KINDS);
             let frame = frame_of(scenario, kind);
             let line = scenario.damaged(frame);
             scenario.put_line(&line);
@@ -261,6 +287,7 @@ fn frame_of(scenario: &mut Scenario, kind: usize) -> Vec<u8> {
         6 => scenario.change(),
         7 => scenario.deletion(),
         8 => scenario.query(),
-        _ => scenario.day_opening(),
+        9 => scenario.day_opening(),
+        _ => scenario.search(),
     }
 }

@@ -22,6 +22,8 @@ pub struct Scenario {
     pub flaws: usize,
     /// How many amounts in a hundred are the highest.
     pub large: usize,
+    /// How many new codes in a hundred have no digits but 0 and 1.
+    pub alike: usize,
     list: Vec<u8>,
     answer: Vec<u8>,
     lines: usize,
@@ -37,6 +39,7 @@ impl Scenario {
             second: 0,
             flaws: 6,
             large: 5,
+            alike: 0,
             list: Vec::new(),
             answer: Vec::new(),
             lines: 0,

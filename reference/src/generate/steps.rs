@@ -42,8 +42,11 @@ impl Scenario {
 
     /// A code to be opened: mostly a new one.
     fn opened_code(&mut self) -> u32 {
+        let alike = self.alike;
         if self.flawed() {
             self.party()
+        } else if self.random.percent(alike) {
+            (0..6).fold(0, |code, _| 10 * code + self.random.below(2) as u32)
         } else {
             self.new_code()
         }
