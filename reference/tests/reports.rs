@@ -3,8 +3,8 @@
 use reference::account::Moment;
 use reference::command::Header;
 use reference::write::{
-    account_id, bank, branch, change, day_opening, funding, line, payment, query, ChangeItem,
-    CREDIT, LPO_TYPE, LTK_TYPE,
+    account_id, bank, branch, change, day_opening, funding, line, payment, query, search,
+    ChangeItem, Sought, CONTAINS, CREDIT, DEBIT, EQUAL, LACKS, LPO_TYPE, LTK_TYPE,
 };
 use reference::Ledger;
 
@@ -33,6 +33,11 @@ fn header(sender: u32, second: u8) -> Header {
     let second = u32::from(second);
     let moment = Moment { day: 0, second };
     Header { sender, id, moment }
+}
+
+fn sought(mode: u8, text: &[u8]) -> Sought {
+    let text = text.to_vec();
+    Sought { mode, text }
 }
 
 /// A bank with 1,000 and a branch with the limits given.
@@ -120,4 +125,68 @@ fn a_refused_query_has_no_report() {
     let mut ledger = group(0, 0, [0, 0]);
     let asked = query(&header(BANK, 2), &[*b"2UAH888888"]);
     assert_eq!(play(&mut ledger, &asked), "21\n");
+}
+
+#[test]
+fn a_search_shows_id_state_and_turnovers() {
+    let mut ledger = group(-100, 70, [0, 0]);
+    play(&mut ledger, &bank(777_777));
+    play(&mut ledger, &payment(CREDIT, BRANCH, BANK, 30));
+    play(&mut ledger, &payment(DEBIT, 777_777, BRANCH, 5));
+    let conditions = [sought(CONTAINS, b"8001"), sought(LACKS, b"8001")];
+    let asked = search(&header(BANK, 2), &conditions);
+    let bank = [
+        "00 31554148383838383838",
+        "00000000000003e3 000000000000001e 000000000000001e 0000000000000000 0000000000000005",
+    ];
+    let branch = [
+        "00 31554148383838303031",
+        "ffffffffffffffdd 000000000000001e 0000000000000000 0000000000000000 0000000000000005",
+    ];
+    let expected = answer(&["00 03", &bank.concat(), &branch.concat(), "18"]);
+    assert_eq!(play(&mut ledger, &asked), expected);
+}
+
+#[test]
+fn a_branch_sees_itself_alone() {
+    let mut ledger = group(0, 0, [0, 0]);
+    let asked = search(&header(BRANCH, 2), &[sought(LACKS, b"\0")]);
+    let branch = "00 31554148383838303031";
+    let zeros = "0000000000000000".repeat(5);
+    assert_eq!(
+        play(&mut ledger, &asked),
+        answer(&["00 02", "18", branch, &zeros])
+    );
+}
+
+#[test]
+fn a_search_changes_no_account() {
+    let mut ledger = group(-100, 70, [0, 0]);
+    let before = format!("{:?}", ledger.accounts());
+    let asked = search(&header(BANK, 2), &[sought(CONTAINS, b"1")]);
+    assert!(play(&mut ledger, &asked).starts_with("0002"));
+    assert_eq!(format!("{:?}", ledger.accounts()), before);
+    assert_eq!(ledger.book().len(), 2);
+    assert_eq!(play(&mut ledger, &asked), "14\n");
+}
+
+#[test]
+fn a_refused_search_has_no_report() {
+    let mut ledger = group(0, 0, [0, 0]);
+    let asked = search(&header(BANK, 2), &[sought(EQUAL, b"2UAH888888")]);
+    assert_eq!(play(&mut ledger, &asked), "21\n");
+    assert_eq!(ledger.book().len(), 1);
+}
+
+#[test]
+fn the_longest_report_has_64_accounts() {
+    let mut ledger = Ledger::new();
+    play(&mut ledger, &bank(BANK));
+    for code in 0..63 {
+        assert_eq!(play(&mut ledger, &branch(code, BANK, [0, 0])), "00\n");
+    }
+    let asked = search(&header(BANK, 1), &[sought(CONTAINS, b"1UAH")]);
+    let said = play(&mut ledger, &asked);
+    assert!(said.starts_with("0040"));
+    assert_eq!(said.len(), 2 + 2 * (1 + 64 * 51) + 1);
 }

@@ -5,7 +5,7 @@ use crate::account::TOP_VALUE;
 use crate::book;
 use crate::ledger::MOST_ACCOUNTS;
 use crate::write::{account_id, bank, branch, change, day_opening, deletion, funding, payment};
-use crate::write::{withdrawal, CREDIT, DEBIT};
+use crate::write::{search, withdrawal, Sought, CONTAINS, CREDIT, DEBIT, LACKS};
 
 /// All states together reach 10^18.
 pub fn total_of_banks() -> Vec<Example> {
@@ -44,6 +44,10 @@ pub fn turnover() -> Vec<Example> {
 /// The book is empty when day 12 opens: its last id was accepted on day 9.
 pub fn book() -> Vec<Example> {
     let ask = |id: u32, day: u32| query_of(header(HEAD, id, day, 0), &[HEAD]);
+    let seek = |id: u32, mode: u8| {
+        let text = b"1UAH".to_vec();
+        search(&header(HEAD, id, 12, 0), &[Sought { mode, text }])
+    };
     let queries = (1_000..).take(book::PLACES);
     let last = 999 + book::PLACES as u32;
     let new = last + 1;
@@ -58,12 +62,15 @@ pub fn book() -> Vec<Example> {
             "a deletion",
             deletion(&header(HEAD, new, 12, 0), &account_id(888_001), 1),
         ),
+        example(22, "a search", seek(new, CONTAINS)),
         example(14, "14 before 22", ask(last, 12)),
+        example(14, "14 before 22 in a search", seek(last, CONTAINS)),
         example(
             21,
             "21 before 22",
             query_of(header(HEAD, new, 12, 0), &[NOBODY]),
         ),
+        example(21, "21 before 22 in a search", seek(new, LACKS)),
         example(0, "day 13", day_opening(13)),
         example(22, "the ids of day 12 stay", ask(new, 13)),
         example(0, "day 14", day_opening(14)),
@@ -76,6 +83,11 @@ pub fn book() -> Vec<Example> {
 pub fn table() -> Vec<Example> {
     const STANDING: usize = 17;
     let banks = (100_000..).take(MOST_ACCOUNTS - STANDING);
+    let last = 99_999 + (MOST_ACCOUNTS - STANDING) as u32;
+    let seek_all = |sender: u32, id: u32| {
+        let (mode, text) = (LACKS, b"x".to_vec());
+        search(&header(sender, id, 14, 0), &[Sought { mode, text }])
+    };
     let openings = banks.map(|code| example(0, "one more bank", bank(code)));
     let top = [
         example(3, "3: 65th account", bank(200_000)),
@@ -83,6 +95,8 @@ pub fn table() -> Vec<Example> {
         example(2, "2 before 3", bank(HEAD)),
         example(4, "4 before 3", branch(200_000, 200_001, [0, 0])),
         example(5, "5 before 3", branch(200_000, 888_001, [0, 0])),
+        example(0, "888888 finds 64 accounts", seek_all(HEAD, 3_000)),
+        example(0, "the last account finds them", seek_all(last, 3_001)),
         example(0, "last line, without its end", day_opening(15)),
     ];
     openings.chain(top).collect()

@@ -5,6 +5,7 @@ mod answers;
 mod figures;
 mod fillings;
 mod messages;
+mod searches;
 
 use crate::account::Moment;
 use crate::command::{AccountId, Header};
@@ -15,7 +16,7 @@ pub struct Example {
     pub what: &'static str,
     pub line: Vec<u8>,
     pub answer: u8,
-    /// The report of an accepted query, where the example is about it.
+    /// The report of an accepted query or search, where the example is about it.
     pub report: Option<Vec<u8>>,
 }
 
@@ -25,6 +26,7 @@ pub fn all() -> Vec<Example> {
         answers::first_steps(),
         fillings::total_of_banks(),
         answers::ill_formed(),
+        searches::ill_formed(),
         answers::accounts(),
         answers::payments(),
         messages::refusals(),
@@ -32,6 +34,8 @@ pub fn all() -> Vec<Example> {
         figures::reports(),
         figures::morning(),
         messages::ids_over_days(),
+        searches::reports(),
+        searches::refusals(),
         fillings::turnover(),
         fillings::book(),
         fillings::table(),
@@ -69,15 +73,15 @@ fn raw(answer: u8, what: &'static str, line: Vec<u8>) -> Example {
     }
 }
 
-/// A query that is accepted with these blocks.
-fn shows(what: &'static str, query: Vec<u8>, blocks: &[Block]) -> Example {
+/// A query or search that is accepted with these blocks.
+fn shows(what: &'static str, frame: Vec<u8>, blocks: &[Block]) -> Example {
     let mut report = vec![blocks.len() as u8];
     for block in blocks {
         block.write(&mut report);
     }
     Example {
         report: Some(report),
-        ..example(0, what, query)
+        ..example(0, what, frame)
     }
 }
 
@@ -128,6 +132,8 @@ enum Shown {
 enum Block {
     Number(u8),
     Limits(Shown, Shown),
+    /// Of a search: code, state, turnovers.
+    Account(u32, i64, [i64; 4]),
 }
 
 impl Block {
@@ -138,6 +144,12 @@ impl Block {
                 report.push(0);
                 ltk.write(report);
                 lpo.write(report);
+            }
+            Block::Account(code, state, turnovers) => {
+                report.push(0);
+                report.extend(write::account_id(*code));
+                report.extend(state.to_be_bytes());
+                report.extend(turnovers.iter().flat_map(|turnover| turnover.to_be_bytes()));
             }
         }
     }
