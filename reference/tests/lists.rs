@@ -29,7 +29,13 @@ fn accepted(list: &[u8]) -> u64 {
 
 #[test]
 fn the_same_seed_gives_the_same_list() {
-    for workload in [Workload::All, Workload::Payments, Workload::Mix] {
+    let workloads = [
+        Workload::All,
+        Workload::Payments,
+        Workload::Mix,
+        Workload::Search,
+    ];
+    for workload in workloads {
         let list = generate(5, 500, workload);
         assert_eq!(list, generate(5, 500, workload));
         assert_ne!(list, generate(6, 500, workload));
@@ -45,6 +51,14 @@ fn payments_are_mostly_accepted() {
 #[test]
 fn the_mix_is_mostly_accepted() {
     assert!(accepted(&generate(1, 20_000, Workload::Mix)) > 16_000);
+}
+
+#[test]
+fn searches_are_all_accepted() {
+    let list = generate(1, 5_000, Workload::Search);
+    assert_eq!(accepted(&list), 5_000);
+    let is_search = |line: &&[u8]| line.starts_with(b"0b");
+    assert!(lines_of(&list).filter(is_search).count() > 4_800);
 }
 
 #[test]

@@ -1,4 +1,4 @@
-//! Measures a program beside others on two workloads: the time on the processor, since the clock tells little on a machine that is shared.
+//! Measures a program beside others on a workload: the time on the processor, since the clock tells little on a machine that is shared.
 
 use std::env;
 use std::fs::{self, File};
@@ -11,11 +11,13 @@ use std::time::Duration;
 use reference::generate::{generate, Workload};
 
 const SEED: u64 = 1;
-const USAGE: &str = "usage: bench LINES ROUNDS PROGRAM OTHER..";
+const USAGE: &str = "usage: bench LINES ROUNDS payments|mix|search PROGRAM OTHER..";
 
 struct Arguments {
     lines: usize,
     rounds: usize,
+    name: String,
+    workload: Workload,
     programs: Vec<PathBuf>,
 }
 
@@ -35,7 +37,7 @@ fn main() -> ExitCode {
 }
 
 fn read(arguments: &[String]) -> Option<Arguments> {
-    let [lines, rounds, programs @ ..] = arguments else {
+    let [lines, rounds, name, programs @ ..] = arguments else {
         return None;
     };
     let number = |text: &String| text.parse().ok().filter(|&number| number > 0);
@@ -45,23 +47,23 @@ fn read(arguments: &[String]) -> Option<Arguments> {
     Some(Arguments {
         lines: number(lines)?,
         rounds: number(rounds)?,
+        name: name.clone(),
+        workload: Workload::named(name)?,
         programs: programs.iter().map(PathBuf::from).collect(),
     })
 }
 
 fn run(arguments: &Arguments) -> io::Result<()> {
-    for (name, workload) in [("payments", Workload::Payments), ("mix", Workload::Mix)] {
-        let file = env::temp_dir().join(format!("bench-{}-{name}", process::id()));
-        fs::write(&file, generate(SEED, arguments.lines, workload))?;
-        let measured = measure(arguments, &file);
-        fs::remove_file(&file)?;
-        print(name, arguments, &measured?);
-    }
+    let file = env::temp_dir().join(format!("bench-{}", process::id()));
+    fs::write(&file, generate(SEED, arguments.lines, arguments.workload))?;
+    let measured = measure(arguments, &file);
+    fs::remove_file(&file)?;
+    print(arguments, &measured?);
     Ok(())
 }
 
-fn print(name: &str, arguments: &Arguments, least: &[Duration]) {
-    let (lines, rounds) = (arguments.lines, arguments.rounds);
+fn print(arguments: &Arguments, least: &[Duration]) {
+    let (name, lines, rounds) = (&arguments.name, arguments.lines, arguments.rounds);
     println!("{name}: {lines} lines, processor time, least of {rounds} rounds");
     for (program, &time) in arguments.programs.iter().zip(least) {
         let milliseconds = 1e3 * time.as_secs_f64();

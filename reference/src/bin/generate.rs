@@ -9,7 +9,7 @@ use reference::generate::{generate, Workload};
 fn main() -> ExitCode {
     let arguments: Vec<String> = env::args().skip(1).collect();
     let Some((seed, lines, workload)) = read(&arguments) else {
-        eprintln!("usage: generate SEED LINES all|payments|mix");
+        eprintln!("usage: generate SEED LINES all|payments|mix|search");
         return ExitCode::from(2);
     };
     // Nobody is left to tell when the output fails.

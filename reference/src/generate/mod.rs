@@ -18,6 +18,8 @@ pub enum Workload {
     Payments,
     /// Payments, limit messages, fundings and days as a system would see them.
     Mix,
+    /// Searches of eight conditions over 64 accounts.
+    Search,
 }
 
 impl Workload {
@@ -26,6 +28,7 @@ impl Workload {
             "all" => Some(Workload::All),
             "payments" => Some(Workload::Payments),
             "mix" => Some(Workload::Mix),
+            "search" => Some(Workload::Search),
             _ => None,
         }
     }
@@ -38,6 +41,7 @@ pub fn generate(seed: u64, lines: usize, workload: Workload) -> Vec<u8> {
         Workload::All => profiles::play(&mut scenario, seed),
         Workload::Payments => steady::payments(&mut scenario),
         Workload::Mix => steady::mix(&mut scenario),
+        Workload::Search => steady::searches(&mut scenario),
     }
     scenario.list()
 }

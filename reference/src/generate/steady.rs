@@ -3,12 +3,15 @@
 use super::random::Random;
 use super::scenario::Scenario;
 use crate::account::{Account, TOP_VALUE};
-use crate::command::{AccountId, MOST_ITEMS};
-use crate::write::{self, ChangeItem, CREDIT, DEBIT, LPO_TYPE, LTK_TYPE};
+use crate::command::{AccountId, MOST_CONDITIONS, MOST_ITEMS};
+use crate::write::{self, ChangeItem, Sought, CONTAINS, CREDIT, DEBIT, EQUAL, LACKS};
+use crate::write::{LPO_TYPE, LTK_TYPE};
 
 const BANKS: usize = 16;
 const BRANCHES_PER_BANK: usize = 3;
 const LINES_PER_DAY: usize = 900;
+/// The book has places for the ids of two days.
+const SEARCHES_PER_DAY: usize = 500;
 const COMMON_AMOUNT: i64 = 1_000_000;
 
 /// How many lines in a hundred are meant to be refused.
@@ -38,6 +41,18 @@ pub fn mix(scenario: &mut Scenario) {
             15..18 => move_money(scenario, &banks),
             18 => set_bank_limits(scenario, &banks),
             _ => pay(scenario, &parties),
+        }
+    }
+}
+
+/// Searches, all accepted, and a day opening now and then.
+pub fn searches(scenario: &mut Scenario) {
+    let parties = begin(scenario, &[0]);
+    while !scenario.is_done() {
+        let day = scenario.ledger.day() + 1;
+        scenario.put(&write::day_opening(day));
+        for _ in 0..SEARCHES_PER_DAY {
+            search(scenario, &parties);
         }
     }
 }
@@ -149,6 +164,42 @@ fn query(scenario: &mut Scenario, groups: &[Group]) {
         })
         .collect();
     scenario.put(&write::query(&header, &ids));
+}
+
+/// Eight conditions, of which the last alone holds of many accounts, so that
+/// most texts are looked for in most ids.
+fn search(scenario: &mut Scenario, groups: &[Group]) {
+    let group = scenario.random.pick(groups);
+    let sender = scenario.random.pick(&group);
+    let header = scenario.fresh_header(sender);
+    let mut conditions: Vec<Sought> = (1..MOST_CONDITIONS)
+        .map(|_| seldom_met(&mut scenario.random))
+        .collect();
+    // Not 1, which stands in every id.
+    let digit = b'2' + scenario.random.below(8) as u8;
+    let [bank, ..] = group.map(write::account_id);
+    conditions.push(match scenario.random.below(3) {
+        0 => sought(CONTAINS, &bank[6..]),
+        1 => sought(CONTAINS, &[digit]),
+        _ => sought(LACKS, &[digit]),
+    });
+    scenario.put(&write::search(&header, &conditions));
+}
+
+/// A condition that hardly any account meets.
+fn seldom_met(random: &mut Random) -> Sought {
+    let id = write::account_id(random.below(1_000_000) as u32);
+    let begin = random.below(6);
+    match random.below(4) {
+        0 => sought(EQUAL, &id),
+        1 => sought(LACKS, &id[random.below(4)..4]),
+        _ => sought(CONTAINS, &id[begin..begin + 5]),
+    }
+}
+
+fn sought(mode: u8, text: &[u8]) -> Sought {
+    let text = text.to_vec();
+    Sought { mode, text }
 }
 
 fn move_money(scenario: &mut Scenario, banks: &[u32]) {
