@@ -1,5 +1,5 @@
 /*
- * How many lines a second the frame reader reads: lines of all ten kinds in turn, changes and queries of 1 to 16 items, one line in eight with a wrong digit
+ * How many lines a second the frame reader reads: lines of kinds 01 to 0a in turn, changes and queries of 1 to 16 items, one line in eight with a wrong digit
  * somewhere. The best of eight rounds is printed.
  */
 #define _POSIX_C_SOURCE 199309L

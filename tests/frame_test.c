@@ -25,8 +25,12 @@ static unsigned long passed, failed;
 #define HEAD CODE ID DAY LAST
 #define ACCOUNT "31554148383838383838"
 #define ITEM ACCOUNT "01" BELOW
+#define EQUAL "010a" ACCOUNT
+#define CONTAINS "0203383838"
+#define LACKS "030138"
 #define TWICE(x) x x
-#define SIXTEEN(x) TWICE(TWICE(TWICE(TWICE(x))))
+#define EIGHT(x) TWICE(TWICE(TWICE(x)))
+#define SIXTEEN(x) TWICE(EIGHT(x))
 
 struct named {
     const char *name, *digits;
@@ -53,6 +57,19 @@ static const struct named good[] = {
     {"09 query of 16", "09" HEAD "10" SIXTEEN(ACCOUNT)},
     {"0a opening", "0a" DAY},
     {"0a opening of the last day", "0affffffff"},
+    {"0b search, equal", "0b" HEAD "01" EQUAL},
+    {"0b search, contains", "0b" HEAD "01" CONTAINS},
+    {"0b search, lacks", "0b" HEAD "01" LACKS},
+    {"0b contains of length 1, the shortest search", "0b" HEAD "01" "020138"},
+    {"0b contains of length 10", "0b" HEAD "01" "020a" ACCOUNT},
+    {"0b lacks of length 10", "0b" HEAD "01" "030a" ACCOUNT},
+    {"0b text of any bytes", "0b" HEAD "01" "0306000a0dff8020"},
+    {"0b at second 0", "0b" CODE ID DAY "00000000" "01" CONTAINS},
+    {"0b search of 2", "0b" HEAD "02" LACKS EQUAL},
+    {"0b search of 3", "0b" HEAD "03" CONTAINS EQUAL LACKS},
+    {"0b search of 7", "0b" HEAD "07" EQUAL TWICE(TWICE(LACKS)) TWICE(CONTAINS)},
+    {"0b search of 8", "0b" HEAD "08" EIGHT(CONTAINS)},
+    {"0b search of 8, the longest", "0b" HEAD "08" EIGHT(EQUAL)},
 };
 
 static const struct named refused[] = {
@@ -74,8 +91,9 @@ static const struct named refused[] = {
     {"0x before the digits", "0x01" CODE},
     {"kind 00", "00" CODE},
     {"kind 00 alone", "00"},
-    {"kind 0b as an opening", "0b" DAY},
-    {"kind 0b as a bank", "0b" CODE},
+    {"kind 0c as an opening", "0c" DAY},
+    {"kind 0c as a bank", "0c" CODE},
+    {"kind 0c as a search", "0c" HEAD "01" CONTAINS},
     {"kind 10", "10" DAY},
     {"kind 1a", "1a" DAY},
     {"kind ff", "ff" CODE},
@@ -113,6 +131,37 @@ static const struct named refused[] = {
     {"09 count 0", "09" HEAD "00"},
     {"09 count 17", "09" HEAD "11" SIXTEEN(ACCOUNT) ACCOUNT},
     {"09 count 2 with 1 id", "09" HEAD "02" ACCOUNT},
+    {"0b as an opening", "0b" DAY},
+    {"0b without conditions", "0b" HEAD},
+    {"0b second 86,400", "0b" CODE ID DAY "00015180" "01" CONTAINS},
+    {"0b sender not digits", "0b" "383838383861" ID DAY LAST "01" CONTAINS},
+    {"0b count 0", "0b" HEAD "00"},
+    {"0b count 0 with a condition", "0b" HEAD "00" CONTAINS},
+    {"0b count 9", "0b" HEAD "09" EIGHT(CONTAINS) CONTAINS},
+    {"0b count 16", "0b" HEAD "10" SIXTEEN(LACKS)},
+    {"0b count ff", "0b" HEAD "ff" CONTAINS},
+    {"0b count 2 with 1 condition", "0b" HEAD "02" CONTAINS},
+    {"0b count 1 with 2 conditions", "0b" HEAD "01" CONTAINS CONTAINS},
+    {"0b mode 0", "0b" HEAD "01" "0003383838"},
+    {"0b mode 4", "0b" HEAD "01" "0403383838"},
+    {"0b mode ff", "0b" HEAD "01" "ff0a" ACCOUNT},
+    {"0b mode 4 in the last of eight", "0b" HEAD "08" EQUAL TWICE(EQUAL) TWICE(TWICE(LACKS)) "040138"},
+    {"0b contains of length 0", "0b" HEAD "01" "0200"},
+    {"0b contains of length 11", "0b" HEAD "01" "020b" ACCOUNT "38"},
+    {"0b lacks of length 0", "0b" HEAD "01" "0300"},
+    {"0b lacks of length 11", "0b" HEAD "01" "030b" ACCOUNT "38"},
+    {"0b lacks of length ff", "0b" HEAD "01" "03ff" ACCOUNT},
+    {"0b equal of length 0", "0b" HEAD "01" "0100"},
+    {"0b equal of length 1", "0b" HEAD "01" "010138"},
+    {"0b equal of length 9", "0b" HEAD "01" "0109315541483838383838"},
+    {"0b equal of length 11", "0b" HEAD "01" "010b" ACCOUNT "38"},
+    {"0b equal of length 9 behind a good one", "0b" HEAD "02" CONTAINS "0109315541483838383838"},
+    {"0b without a mode", "0b" HEAD "01"},
+    {"0b without a length", "0b" HEAD "01" "02"},
+    {"0b without a text", "0b" HEAD "01" "0203"},
+    {"0b a byte of text short", "0b" HEAD "01" "02033838"},
+    {"0b a byte long", "0b" HEAD "01" CONTAINS "38"},
+    {"0b the second text short", "0b" HEAD "02" EQUAL "02033838"},
     {"352 bytes that are no frame", SIXTEEN(SIXTEEN("01")) SIXTEEN(TWICE(TWICE("01"))) SIXTEEN(TWICE("01"))},
 };
 
@@ -127,8 +176,24 @@ static int digit_value(int c)
     return at ? (int)(at - digits) : -1;
 }
 
-/* Behind the kind. C: code. M: amount. D: 4 bytes. H: header. A: account id and type. 1, 3: a byte up to this. i, q: a count, and rows of 19 or 10 bytes. */
-static const char *const layouts[] = {NULL, "C", "CC33", "CM", "CM", "CMM", "1CCM", "Hi", "HA", "Hq", "D"};
+/* Behind the kind. C: code. M: amount. D: 4 bytes. H: header. A: account id and type. 1, 3: a byte up to this. i, q: a count, and rows of 19 or 10 bytes.
+ * s: a count, and conditions. */
+static const char *const layouts[] = {NULL, "C", "CC33", "CM", "CM", "CMM", "1CCM", "Hi", "HA", "Hq", "D", "Hs"};
+
+/* The number of bytes of a count and so many conditions: mode, length, text. */
+static int conditions_bytes(const uint8_t *b)
+{
+    int at = 1;
+    if (b[0] < 1 || b[0] > 8)
+        return -1;
+    for (int i = 0; i < b[0]; i++) {
+        int mode = b[at], length = b[at + 1];
+        if (mode < 1 || mode > 3 || length < (mode == 1 ? 10 : 1) || length > 10)
+            return -1;
+        at += 2 + length;
+    }
+    return at;
+}
 
 /* The number of bytes that the field takes, or -1. The bytes behind the frame are 0. */
 static int field_bytes(char field, const uint8_t *b)
@@ -148,6 +213,7 @@ static int field_bytes(char field, const uint8_t *b)
         return field_bytes('C', b) < 0 ? -1 : 46;
     case '1':
     case '3': return *b > field - '0' ? -1 : 1;
+    case 's': return conditions_bytes(b);
     default: return *b < 1 || *b > 16 ? -1 : 1 + *b * (field == 'i' ? 19 : 10);
     }
 }
@@ -165,7 +231,7 @@ static size_t frame_of(const uint8_t *line, size_t digits, uint8_t *frame)
             return 0;
         b[i / 2] = (uint8_t)(b[i / 2] * 16 + value);
     }
-    if (b[0] < 1 || b[0] > 10)
+    if (b[0] < 1 || b[0] > 11)
         return 0;
     for (const char *field = layouts[b[0]]; *field; field++) {
         int bytes = field_bytes(*field, b + at);
@@ -306,8 +372,8 @@ static void bytes_changed(void)
 /* Each count from 0 to 255 with each number of items from 0 to 18. */
 static void counts(void)
 {
-    static const struct named kinds[] = {{"07" HEAD, ITEM}, {"09" HEAD, ACCOUNT}};
-    for (int k = 0; k < 2; k++)
+    static const struct named kinds[] = {{"07" HEAD, ITEM}, {"09" HEAD, ACCOUNT}, {"0b" HEAD, EQUAL}, {"0b" HEAD, LACKS}};
+    for (int k = 0; k < 4; k++)
         for (int count = 0; count < 256; count++) {
             char line[1024];
             int digits = sprintf(line, "%s%02x", kinds[k].name, count);
@@ -316,6 +382,22 @@ static void counts(void)
                 digits += sprintf(line + digits, "%s", kinds[k].digits);
             }
         }
+}
+
+/* Modes 0 to 4 and lengths 0 to 255 with texts of 0 to 12 bytes, by themselves and behind a good condition. */
+static void conditions(void)
+{
+    static const char *const before[] = {"0b" HEAD "01", "0b" HEAD "02" CONTAINS};
+    for (int k = 0; k < 2; k++)
+        for (int mode = 0; mode < 5; mode++)
+            for (int length = 0; length < 256; length++) {
+                char line[256];
+                int digits = sprintf(line, "%s%02x%02x", before[k], mode, length);
+                for (int text = 0; text <= 12; text++) {
+                    compare("condition", (const uint8_t *)line, (size_t)digits);
+                    digits += sprintf(line + digits, "38");
+                }
+            }
 }
 
 /* A buffer of length 0 may have no place at all. */
@@ -359,6 +441,7 @@ int main(void)
     digits_changed();
     bytes_changed();
     counts();
+    conditions();
     no_buffer();
     long_lines();
     printf("%lu passed, %lu failed\n", passed, failed);
