@@ -69,6 +69,7 @@ pub fn ill_formed() -> Vec<Example> {
         refused("text a byte long", [&one[..], b"8"].concat()),
         refused("a condition more", [&one[..], &one[48..]].concat()),
         refused("mode 0", of(&[sought(0, b"888")])),
+        refused("mode 0 and ten", of(&[sought(0, &account_id(HEAD))])),
         refused("mode 4", of(&[sought(4, b"888")])),
         refused("mode 255", of(&[sought(255, &account_id(HEAD))])),
         refused("contains of length 0", of(&[contains(b"")])),
@@ -227,6 +228,7 @@ pub fn reports() -> Vec<Example> {
             "bytes of no text",
             &[contains(b"\x00"), contains(b"\xff\n\x80")],
         ),
+        not_found("a byte 00 behind a part", &[contains(b"888\x00")]),
         not_found("lowercase", &[contains(b"uah")]),
         found(
             "lacks bytes of no text: all",

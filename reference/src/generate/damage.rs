@@ -84,7 +84,7 @@ impl Scenario {
         }
         let length = frame[place + 1];
         let text = place + 2..place + 2 + usize::from(length);
-        match self.random.below(8) {
+        match self.random.below(9) {
             0 => {
                 let counts = [0, 9, 255, count - 1, count + 1, count + 8];
                 frame[COUNT] = self.random.pick(&counts);
@@ -108,6 +108,10 @@ impl Scenario {
             6 => {
                 frame[place + 1] = 0;
                 frame.drain(text);
+            }
+            7 => {
+                frame[COUNT] = 0;
+                frame.truncate(CONDITIONS);
             }
             // Nine conditions, or one more than the count says.
             _ => {

@@ -259,7 +259,8 @@ fn step(scenario: &mut Scenario, weights: &Weights) {
     ]);
     match roll {
         0 => {
-            let kind = scenario.random.below(KINDS);
+            // A search can be ill-formed in the most ways.
+            let kind = scenario.random.below(KINDS + 4).min(KINDS - 1);
             let frame = frame_of(scenario, kind);
             let line = scenario.damaged(frame);
             scenario.put_line(&line);
