@@ -4,7 +4,7 @@ use mathlib.Core.Bool.{Bool, true, _&&_}
 use mathlib.Core.List.{List, [], _∷_}
 use Prim.Native.Nat.{ℕ}
 use lib.Dec.{T, ltb}
-use Rattle.rules.specs.Command.{Command, Bank, Branch, Funding, Withdrawal, BankLimits, Payment, Change, Deletion, Query, Opening}
+use Rattle.rules.specs.Command.{Command, Bank, Branch, Funding, Withdrawal, BankLimits, Payment, Change, Deletion, Query, Opening, Search}
 use Rattle.rules.specs.Machine.{Machine, withAccounts, hasPlace, checks, effect, answer}
 use Rattle.rules.specs.Message.{Entry, limitChecks}
 use Rattle.rules.specs.Payment.{paymentChecks}
@@ -48,6 +48,7 @@ module _ (m : Machine) (es : List Entry) (room : ℕ) where
   looks (Deletion h i t) = (tt, (refl, refl))
   looks (Query h is) = (tt, tt)
   looks (Opening d) = (tt, (refl, refl))
+  looks (Search h cs) = (tt, tt)
 
   pub on-table : (k : Command) → T (plain k) → Plain k
   on-table k p = go (reach k) (looks k .1) p

@@ -1,4 +1,4 @@
--- The contracts of the ten calls make steps. Assumes nothing.
+-- The calls' contracts make steps. Assumes nothing.
 use mathlib.Core.Path.{refl, subst}
 use mathlib.Core.List.{List, [], _∷_}
 use Prim.Native.Nat.{ℕ}

@@ -1,11 +1,11 @@
--- The ten calls' contracts are steps of `DemandOfCalls`. Each field below takes a contract as it stands in the call's `ensures` and gives the `Step`, so a
+-- The calls' contracts are steps of `DemandOfCalls`. Each field below takes a contract as it stands in the call's `ensures` and gives the `Step`, so a
 -- list of the program's calls is a list that the theorem speaks of. Assumes nothing.
 use mathlib.Core.Bool.{Bool, true, false}
 use mathlib.Core.List.{List, [], _∷_}
 use lib.Dec.{T}
 use lib.ListN.{length, take}
 use Prim.Native.Nat.{ℕ}
-use Rattle.rules.specs.Command.{Command, Bank, Branch, Funding, Withdrawal, BankLimits, Payment, Change, Deletion, Query, Opening}
+use Rattle.rules.specs.Command.{Command, Bank, Branch, Funding, Withdrawal, BankLimits, Payment, Change, Deletion, Query, Opening, Search}
 use Rattle.table.specs.declared.Reply.{Reply}
 use Rattle.table.specs.Promise.{Called}
 use Rattle.ledger.specs.declared.Ledger.{Ledger}
@@ -33,6 +33,7 @@ reach (Change h is) = OnBook
 reach (Deletion h i t) = OnBook
 reach (Query h is) = OnReport
 reach (Opening d) = OnBook
+reach (Search h cs) = OnReport
 
 abbrev pub tableAlone : Reach → Bool
 tableAlone OnTable = true
@@ -48,7 +49,7 @@ noReport OnReport = false
 abbrev pub plain : Command → Bool
 plain k = tableAlone (reach k)
 
--- a kind that has no report, all but 09
+-- a kind that has no report, all but 09 and 0b
 abbrev pub silent : Command → Bool
 silent k = noReport (reach k)
 
@@ -61,7 +62,7 @@ pub record CallsAreSteps : Type 0 where
   -- 07, 08, 0a: `change`, `deletion`, `open`. The book is lent
   pub settled : (k : Command) (l : Ledger) (report : List ℕ) (r : Noted) (ids′ days′ : List ℕ) → T (silent k) → Settled k (l .table) (l .book .ids) (l .book .days) (l .book .used) r ids′ days′
       → Step l (lent (length report) k) (record { answer = r .answer; report = [] }) (record { table = r .table; book = record { ids = ids′; days = days′; used = r .used } })
-  -- 09: `query`. The book and the report buffer are lent; the table stays with the caller
+  -- 09, 0b: `query`, `search`. The book and the report buffer are lent; the table stays with the caller
   pub asked : (k : Command) (l : Ledger) (report : List ℕ) (answer used′ len : ℕ) (ids′ days′ report′ : List ℕ)
       → Played (k ∷ []) (l .table) (l .book .ids) (l .book .days) (l .book .used) report (record { answer = answer; table = l .table; used = used′; «report_len» = len }) ids′ days′ report′
       → Step l (lent (length report) k) (record { answer = answer; report = take len report′ }) (record { table = l .table; book = record { ids = ids′; days = days′; used = used′ } })

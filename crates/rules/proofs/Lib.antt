@@ -14,3 +14,6 @@ pub mod Theorem
 pub mod Exactly
 pub mod Simulation
 pub mod Figures
+pub mod Digits
+pub mod Texts
+pub mod Selection

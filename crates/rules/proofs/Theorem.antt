@@ -13,7 +13,7 @@ use Rattle.amount.specs.Amount.{difference, dayBalance, isLimit}
 use Rattle.amount.proofs.Integer.{difference-add, difference-self, difference-up, difference-down, ≤ℤ-out, nonNeg-in, nonNeg-up}
 use Rattle.octets.specs.Octets.{isBytes}
 use Rattle.rules.specs.Account.{Value, Turnovers, Account, balance, state, held, isNone, isBank, noTurnovers, withLimits, opened, codes, blank, at, adjust, total}
-use Rattle.rules.specs.Command.{Header, Command, Bank, Branch, Funding, Withdrawal, BankLimits, Payment, Change, Deletion, Query, Opening, Call, every, some?, isCode, isMethod, isDay, isCount, isHeader, isItem, wellFormed}
+use Rattle.rules.specs.Command.{Header, Command, Bank, Branch, Funding, Withdrawal, BankLimits, Payment, Change, Deletion, Query, Opening, Search, Call, every, some?, isCode, isMethod, isDay, isCount, isHeader, isItem, wellFormed}
 use Rattle.rules.specs.Demand.{broughtForward}
 use Rattle.rules.specs.History.{Event, Funds, Withdraws, Pays, Opens, Nothing, event, events, funds, withdraws, sumOf, paid, count, gets, gives, brought, taken, isOpening, dayOpened}
 use Rattle.rules.specs.Invariant.{All, Limited, Fit, Invariant}
@@ -86,6 +86,8 @@ keep m room (Deletion h i t) v e =
     (λ kn. fit-touch (m .day) h g t cleared cleared-ok (at (named i) xs) nb (all-at (named i) (Fit (m .day)) xs kn (v .fit))) (v .fit))
     (passed 14 _ tt e) (passed 16 _ tt e) (passed 22 _ tt e)
 keep m room (Query h is) v e =
+    kept-message m h (m .accounts) v (still-refl (m .accounts)) (v .fit) (passed 14 _ tt e) (passed 16 _ tt e) (passed 22 _ tt e)
+keep m room (Search h cs) v e =
     kept-message m h (m .accounts) v (still-refl (m .accounts)) (v .fit) (passed 14 _ tt e) (passed 16 _ tt e) (passed 22 _ tt e)
 keep m room (Opening d) v e =
     let l : m .day < d = ltb→lt (m .day) d (passed 13 _ tt e) in

@@ -4,7 +4,7 @@ use mathlib.Core.List.{List, [], _∷_}
 use Prim.Native.Nat.{ℕ, _+_}
 use lib.IntN.{natAbs}
 use lib.Dec.{eqb}
-use Rattle.rules.specs.Command.{Command, Bank, Branch, Funding, Withdrawal, BankLimits, Payment, Change, Deletion, Query, Opening, Call, some?}
+use Rattle.rules.specs.Command.{Command, Bank, Branch, Funding, Withdrawal, BankLimits, Payment, Change, Deletion, Query, Opening, Search, Call, some?}
 use Rattle.rules.specs.Payment.{isCredit, payer, payee}
 use Rattle.rules.specs.Machine.{Outcome, ifAccepted}
 
@@ -27,6 +27,7 @@ event (Change h is) = Nothing
 event (Deletion h i t) = Nothing
 event (Query h is) = Nothing
 event (Opening d) = Opens
+event (Search h cs) = Nothing
 
 -- accepted means answered 0
 unfoldable pub events : List Call → List Outcome → List Event
