@@ -77,14 +77,14 @@ ids-are b a i (suc n) h f =
 abbrev pub HeaderAt : List ℕ → Header → Type 0
 HeaderAt b h = (h .sender ≡ decimal 0 (part 1 6 b)) × (h .day ≡ number (part 39 4 b)) × (h .second ≡ number (part 43 4 b))
 
-header-is : (b id : List ℕ) (h : Header) → HeaderAt b h → id ≡ part 7 32 b
+pub header-is : (b id : List ℕ) (h : Header) → HeaderAt b h → id ≡ part 7 32 b
     → toHeader h id ≡ headerOf (decimal 0 (part 1 6 b)) (part 7 32 b) (number (part 39 4 b)) (number (part 43 4 b))
 unfolding toHeader
 header-is b id h f e = λ j. record { sender = f .0 j; id = e j; moment = record { day = f .1 j; second = f .2 j } }
 
 -- ---- a count, and so many rows up to the end
 
-rows-whole : (b : List ℕ) (w : ℕ) → length b ≡ 48 + w → part 47 (1 + w) b ≡ drop 47 b
+pub rows-whole : (b : List ℕ) (w : ℕ) → length b ≡ 48 + w → part 47 (1 + w) b ≡ drop 47 b
 unfolding part
 rows-whole b w e = take-all (1 + w) (drop 47 b) (simp length-drop (omega arith))
 

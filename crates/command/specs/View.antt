@@ -5,12 +5,13 @@ use lib.IntN.{ℤ, pos}
 use lib.ListN.{getD}
 use Rattle.octets.specs.Octets.{part}
 use Rattle.rules.specs.Command as Rule
+use Rattle.frame_fields.specs.Conditions.{conditionsIn}
 use Rattle.command.specs.declared.Header.{Header}
 use Rattle.command.specs.declared.Command.{Command}
-use Rattle.command.specs.declared.Command.the-variants.{Nothing, Bank, Branch, Funding, Withdrawal, BankLimits, Payment, Change, Deletion, Query, Opening}
+use Rattle.command.specs.declared.Command.the-variants.{Nothing, Bank, Branch, Funding, Withdrawal, BankLimits, Payment, Change, Deletion, Query, Opening, Search}
 use Rattle.command.specs.declared.Order.{Order}
 
--- the header of a limit message, with its id from the array beside it
+-- the header of a message, with its id from the array beside it
 unfoldable pub toHeader : Header → List ℕ → Rule.Header
 toHeader h id = record { sender = h .sender; id = id; moment = record { day = h .day; second = h .second } }
 
@@ -37,6 +38,7 @@ toCommands (Change h n) id accounts types values = Rule.Change (toHeader h id) (
 toCommands (Deletion h t) id accounts types values = Rule.Deletion (toHeader h id) (part 0 10 accounts) t ∷ []
 toCommands (Query h n) id accounts types values = Rule.Query (toHeader h id) (idsFrom 0 n accounts) ∷ []
 toCommands (Opening d) id accounts types values = Rule.Opening d ∷ []
+toCommands (Search h n) id accounts types values = Rule.Search (toHeader h id) (conditionsIn n accounts) ∷ []
 
 unfoldable pub ordered : Order → List Rule.Command
 ordered o = toCommands (o .command) (o .id) (o .accounts) (o .types) (o .values)

@@ -1,8 +1,8 @@
 // Commands as values, parsed from a frame.
 ghost use mathlib.Core.Path.{_≡_};
 ghost use mathlib.Core.Bool.{true, _&&_};
-ghost use Prim.Native.Nat.{ℕ, _+_, _*_, _≤_, _<_};
-ghost use lib.ListN.{length, getD};
+ghost use Prim.Native.Nat.{ℕ, _+_, _-_, _*_, _≤_, _<_};
+ghost use lib.ListN.{length, drop, getD};
 ghost use lib.IntN.{pos};
 ghost use lib.Dec.{leb};
 ghost use Rattle.octets.specs.Octets.{number, signed, part};
@@ -17,14 +17,14 @@ use octets::u32_at;
 use rules::is_code;
 use slices::copy;
 
-// Of a limit message: sender code, creation day and second; the id stands in the order's array.
+// Of a message: sender code, creation day and second; the id stands in the order's array.
 pub struct Header {
     pub sender: u32,
     pub day: u32,
     pub second: u32,
 }
 
-// One variant for each kind, 01 to 0a. What is an array stands beside it, in the order.
+// One variant for each kind, 01 to 0b. What is an array stands beside it, in the order.
 pub enum Command {
     Nothing,
     Bank(u32),
@@ -37,9 +37,11 @@ pub enum Command {
     Deletion(Header, u8),
     Query(Header, usize),
     Opening(u32),
+    Search(Header, usize),
 }
 
-// A command with its arrays: a message's id, and the account ids, types and values of its items.
+// A command with its arrays: a message's id, and the account ids, types and values of its items. A search's conditions stand where the account ids do, as
+// in its frame.
 pub struct Order {
     pub command: Command,
     pub id: [u8; 32],
@@ -239,6 +241,32 @@ fn query(b: &[u8]) -> Order
     }
 }
 
+// The conditions of a search, as they stand behind their count.
+fn conditions_of(b: &[u8]) -> [u8; 160]
+    requires { ⌜ (48 ≤ length (now b)) × (length (now b) ≤ 208) ⌝ }
+    ensures { λ r. ⌜ part 0 (length (now (b .entry)) - 48) r ≡ drop 48 (now (b .entry)) ⌝ }
+{
+    let n = b.len() - 48;
+    let mut texts = [0u8; 160];
+    copy(b, 48, n, &mut texts, 0);
+    texts
+}
+
+// 0b: header, count, conditions.
+fn search(b: &[u8]) -> Order
+    requires { ⌜ (isFrame (now b) ≡ true) × (getD (now b) 0 0 ≡ 11) ⌝ }
+    ensures { λ r. ⌜ ordered r ≡ commandsOf (now (b .entry)) ⌝ }
+{
+    let n = size(b[47]);
+    Order {
+        command: Command::Search(header_at(b), n),
+        id: id_at(b),
+        accounts: conditions_of(b),
+        types: [0; 16],
+        values: [0; 16],
+    }
+}
+
 // The command that a frame holds; none where the bytes are no frame.
 pub fn parse(b: &[u8]) -> Order
     ensures { λ r. ⌜ ordered r ≡ commandsOf (now (b .entry)) ⌝ }
@@ -258,6 +286,7 @@ pub fn parse(b: &[u8]) -> Order
         8 => deletion(b),
         9 => query(b),
         10 => alone(opening(b)),
+        11 => search(b),
         _ => alone(Command::Nothing),
     }
 }

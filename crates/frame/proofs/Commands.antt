@@ -8,9 +8,9 @@ use lib.ListN.{getD, length-map}
 use lib.Dec.{ltb, eqb}
 use borrow.Author.Tests.{eqb-true, ne-eqb}
 use Rattle.octets.specs.Octets.{isBytes}
-use Rattle.rules.specs.Command.{Item, Command, Bank, Branch, Funding, Withdrawal, BankLimits, Payment, Change, Deletion, Query, Opening, every, isCode, isMethod, isDay, isHeader, isItem, wellFormed}
+use Rattle.rules.specs.Command.{Item, Command, Bank, Branch, Funding, Withdrawal, BankLimits, Payment, Change, Deletion, Query, Opening, Search, every, isCode, isMethod, isDay, isHeader, isItem, wellFormed}
 use Rattle.frame.specs.Field.{Field, Row, Values, plainFits, rowFits, fits, may, areFields, allFit}
-use Rattle.frame.specs.Frame.{Kind, K01, K02, K03, K04, K05, K06, K07, K08, K09, K0a, kindByte, itemRow, idRow, fieldsOf, kinds, withByte, kindsAt, layoutOf, layout, isFrame, kindOf, itemValues, idValues, valuesOf, itemOf, idOf, commandOf, commandIn, commandsOf}
+use Rattle.frame.specs.Frame.{Kind, K01, K02, K03, K04, K05, K06, K07, K08, K09, K0a, K0b, kindByte, itemRow, idRow, fieldsOf, kinds, withByte, kindsAt, layoutOf, layout, isFrame, kindOf, itemValues, idValues, valuesOf, itemOf, idOf, commandOf, commandIn, commandsOf}
 use Rattle.frame.proofs.Fields.{narrow}
 
 -- ---- lists
@@ -39,6 +39,7 @@ command-back (Change h is) = ap (Change h) (map-back itemValues itemOf (λ i. re
 command-back (Deletion h i t) = refl
 command-back (Query h is) = ap (Query h) (map-back idValues idOf (λ i. refl) is)
 command-back (Opening d) = refl
+command-back (Search h cs) = refl
 
 -- a kind with the values of its fields
 abbrev pub Filled : Type 0
@@ -60,6 +61,7 @@ values-back K09 v =
     ap {B = Filled} (λ (rs : List (Row idRow)). (K09, (v .0, (v .1 .0, (v .1 .1 .0, (v .1 .1 .1 .0, (rs, tt)))))))
     (map-back idOf idValues (λ r. refl) (v .1 .1 .1 .1 .0))
 values-back K0a v = refl
+values-back K0b v = refl
 
 -- ---- in range
 
@@ -82,6 +84,7 @@ in-range (Payment w s r a) = simp (and-assoc, and-true)
 in-range (Change h is) = rw (length-map, ← every-map itemValues isItem (rowFits itemRow) item-range is) (simp (and-assoc, and-true))
 in-range (Deletion h i t) = simp (and-assoc, and-true)
 in-range (Query h is) = rw (length-map, ← every-map idValues (isBytes 10) (rowFits idRow) id-range is) (simp (and-assoc, and-true))
+in-range (Search h cs) = simp (and-assoc, and-true)
 in-range (Opening d) = sym (and-true (ltb d (2 ^ 32)))
 
 -- ---- kinds
@@ -104,6 +107,7 @@ kind-known K07 = record { byte = refl; alone = refl; fields = refl }
 kind-known K08 = record { byte = refl; alone = refl; fields = refl }
 kind-known K09 = record { byte = refl; alone = refl; fields = refl }
 kind-known K0a = record { byte = refl; alone = refl; fields = refl }
+kind-known K0b = record { byte = refl; alone = refl; fields = refl }
 
 pub kind-layout : (k : Kind) → layout (kindByte k) ≡ fieldsOf k
 unfolding layout layoutOf

@@ -1,21 +1,25 @@
 -- A value that fits a field and its bytes give each other back, and so do the values and the bytes of fields one after the other. Assumes nothing.
 use mathlib.Core.Path.{_≡_, refl, sym, ap, ap₂, _∙_}
 use mathlib.Core.Bool.{Bool, true, _&&_, false≢true}
+use mathlib.Core.Logic.{_⊎_, inl, inr}
 use mathlib.Core.List.{List, [], _∷_, _++_, append-assoc, append-nil}
 use Prim.Native.Nat.{ℕ, _+_, _*_, _^_, _<_, _≤_}
 use native.Mathlib.Omega.{arith}
-use lib.ListN.{length, take, drop, getD, length-append, take-append-drop, drop-of-length-le, List·getD-append}
+use lib.ListN.{length, take, drop, getD, length-append, length-drop, take-append-drop, drop-of-length-le, List·getD-append}
 use lib.Seq.{take-at, drop-cons, drop-append-seam, drop-drop, getD-append-add, getD-take, getD-drop}
 use lib.Dec.{leb, ltb}
 use borrow.Author.Tests.{ltb-true, leb-true, eqb-true, lt-ltb, eq-eqb}
 use Rattle.octets.specs.Octets.{bigEndian, numberFrom, number, areBytes, isBytes, part}
 use Rattle.octets.proofs.Numbers.{bytes-append, bytes-part, length-bigEndian, isBytes-bigEndian, number-bigEndian, bigEndian-number, both}
 use Rattle.octets.proofs.Places.{part-length, whole-bytes}
-use Rattle.rules.specs.Command.{isCode, isCount, every}
-use Rattle.rules.specs.Message.{decimal}
+use Rattle.rules.specs.Command.{isCode, isCount, every, isCondition, isFew}
+use Rattle.rules.specs.Message.{decimal, digits}
 use Rattle.frame_fields.specs.Place.{sixDigits, wordAt}
-use Rattle.frame.specs.Field.{Field, Code, UpTo, Second, Free, Items, Never, rowSize, width, may, Value, rowFits, fits, digits, rowsBytes, bytesOf, valueOf, areFields, Values, allFit, allBytes, allValues}
-use Rattle.frame.proofs.Digits.{digits-bytes, length-digits, digits-digits, decimal-digits, digits-decimal, decimal-below, six-digits}
+use Rattle.frame_fields.specs.Conditions.{conditionsWidth, areConditions}
+use Rattle.frame.specs.Field.{Field, Code, UpTo, Second, Free, Items, Conditions, Never, rowSize, width, may, Value, rowFits, fits, rowsBytes, conditionsBytes, bytesOf, valueOf, areFields, Values, allFit, allBytes, allValues}
+use Rattle.frame.proofs.Texts.{conditions-length, conditions-bytes, conditions-may, conditions-back, conditions-count, conditions-fits, conditions-there, conditions-same}
+use Rattle.rules.proofs.Digits.{length-digits, digits-bytes, digits-digits, decimal-digits, digits-decimal, decimal-below}
+use Rattle.frame.proofs.Digits.{six-digits}
 use Rattle.frame.proofs.Rows.{is-bytes, bytes-are, isBytes-drop, plain-bytes, plain-back, plain-fits, plain-there, rows-bytes, rows-back, rows-length, rows-fits, rows-there}
 
 -- ---- one field
@@ -27,12 +31,17 @@ narrow (UpTo m) = ltb m 256
 narrow Second = true
 narrow (Free p) = true
 narrow (Items ps) = true
+narrow Conditions = true
 narrow Never = true
 
 -- four bytes as a number
 word-number : (bs : List ℕ) → length bs ≡ 4 → wordAt bs 0 ≡ number bs
 unfolding wordAt number numberFrom
 word-number bs e = sym (ap number (whole-bytes 3 bs e) ∙ omega arith)
+
+pub few-range : (n : ℕ) → isFew n ≡ true → (1 ≤ n) × (n ≤ 8)
+unfolding isFew
+few-range n h = let q = both (leb 1 n) (leb n 8) h in (leb-true 1 n (q .0), leb-true n 8 (q .1))
 
 count-range : (n : ℕ) → isCount n ≡ true → (1 ≤ n) × (n ≤ 16)
 unfolding isCount
@@ -49,6 +58,10 @@ field-bytes (Items ps) v m h =
     let b = bytes-are (length v * rowSize ps) (rowsBytes ps v) (rows-bytes ps v (q .1)) in
     is-bytes (1 + length v * rowSize ps) (length v ∷ rowsBytes ps v) (omega arith)
     (ap₂ _&&_ (lt-ltb (length v) 256 (omega (arith, count-range (length v) (q .0) .1))) (b .1))
+field-bytes Conditions v m h =
+    let q = both (isFew (length v)) (every isCondition v) h in
+    is-bytes (1 + conditionsWidth (length v) (conditionsBytes v)) (length v ∷ conditionsBytes v) (omega (arith, conditions-length v))
+    (ap₂ _&&_ (lt-ltb (length v) 256 (omega (arith, few-range (length v) (q .0) .1))) (conditions-bytes v (q .1)))
 field-bytes Never v m h = absurd (false≢true h)
 
 pub field-may : (f : Field) (v : Value f) → fits f v ≡ true → may f (bytesOf f v) 0 ≡ true
@@ -58,6 +71,7 @@ field-may (UpTo m) v h = h
 field-may Second v h = ap (λ (n : ℕ). leb n 86399) (word-number (bigEndian 4 v) (length-bigEndian 4 v) ∙ number-bigEndian 4 v (omega (arith, leb-true v 86399 h))) ∙ h
 field-may (Free p) v h = refl
 field-may (Items ps) v h = both (isCount (length v)) (every (rowFits ps) v) h .0
+field-may Conditions v h = let q = both (isFew (length v)) (every isCondition v) h in ap₂ _&&_ (q .0) (conditions-may v (q .1))
 field-may Never v h = h
 
 pub field-back : (f : Field) (v : Value f) → fits f v ≡ true → valueOf f (bytesOf f v) ≡ v
@@ -67,6 +81,7 @@ field-back (UpTo m) v h = refl
 field-back Second v h = number-bigEndian 4 v (omega (arith, leb-true v 86399 h))
 field-back (Free p) v h = plain-back p v h
 field-back (Items ps) v h = rows-back ps v (both (isCount (length v)) (every (rowFits ps) v) h .1)
+field-back Conditions v h = conditions-back v
 field-back Never v h = refl
 
 pub field-fits : (f : Field) (bs : List ℕ) → isBytes (width f bs 0) bs ≡ true → may f bs 0 ≡ true → fits f (valueOf f bs) ≡ true
@@ -80,6 +95,10 @@ field-fits (Free p) bs b h = plain-fits p bs b
 field-fits (Items ps) bs b h =
     let n = getD bs 0 0 in
     ap₂ _&&_ (ap isCount (rows-length ps n (drop 1 bs)) ∙ h) (rows-fits ps n (drop 1 bs) (isBytes-drop 1 (n * rowSize ps) bs b))
+field-fits Conditions bs b h =
+    let n = getD bs 0 0 in
+    let q = both (isFew n) (areConditions n (drop 1 bs)) h in
+    ap₂ _&&_ (ap isFew (conditions-count n (drop 1 bs)) ∙ q .0) (conditions-fits n (drop 1 bs) (isBytes-drop 1 (conditionsWidth n (drop 1 bs)) bs b) (q .1))
 field-fits Never bs b h = h
 
 pub field-there : (f : Field) (bs : List ℕ) → isBytes (width f bs 0) bs ≡ true → may f bs 0 ≡ true → bytesOf f (valueOf f bs) ≡ bs
@@ -96,6 +115,10 @@ field-there (Items ps) bs b h =
     let n = getD bs 0 0 in
     ap₂ _∷_ (rows-length ps n (drop 1 bs)) (rows-there ps n (drop 1 bs) (isBytes-drop 1 (n * rowSize ps) bs b))
     ∙ sym (drop-cons bs 0 0 (omega (arith, bytes-are (1 + n * rowSize ps) bs b .0)))
+field-there Conditions bs b h =
+    let n = getD bs 0 0 in
+    ap₂ _∷_ (conditions-count n (drop 1 bs)) (conditions-there n (drop 1 bs) (isBytes-drop 1 (conditionsWidth n (drop 1 bs)) bs b))
+    ∙ sym (drop-cons bs 0 0 (omega (arith, bytes-are (1 + conditionsWidth n (drop 1 bs)) bs b .0)))
 field-there Never bs b h = absurd (false≢true h)
 
 -- ---- a field at its place
@@ -107,6 +130,7 @@ least (UpTo m) = 1
 least Second = 4
 least (Free p) = 0
 least (Items ps) = 1
+least Conditions = 1
 least Never = 0
 
 pub least-width : (f : Field) (b : List ℕ) (i : ℕ) → least f ≤ width f b i
@@ -116,29 +140,60 @@ least-width (UpTo m) b i = omega arith
 least-width Second b i = omega arith
 least-width (Free p) b i = omega arith
 least-width (Items ps) b i = omega arith
+least-width Conditions b i = omega arith
 least-width Never b i = omega arith
+
+-- a field at the place i of b, or at the beginning of v, ends within v
+abbrev pub Ends : List ℕ → List ℕ → ℕ → Field → Type 0
+Ends b v i f = (width f v 0 ≤ length v) ⊎ (width f b i ≤ length v)
 
 -- the bytes v stand at the place i of b
 module _ (b v : List ℕ) (i : ℕ) (same : (k : ℕ) → k < length v → getD b (i + k) 0 ≡ getD v k 0) where
   first : 0 < length v → getD b i 0 ≡ getD v 0 0
   first h = let e : i ≡ i + 0 = omega arith in ap (λ (k : ℕ). getD b k 0) e ∙ same 0 h
 
-  pub width-same : (f : Field) → least f ≤ length v → width f b i ≡ width f v 0
+  ends-least : (f : Field) → Ends b v i f → least f ≤ length v
+  ends-least f (inl h) = omega (arith, h, least-width f v 0)
+  ends-least f (inr h) = omega (arith, h, least-width f b i)
+
+  conditions-here : Ends b v i Conditions
+      → (conditionsWidth (getD b i 0) (drop (i + 1) b) ≡ conditionsWidth (getD v 0 0) (drop 1 v)) × (areConditions (getD b i 0) (drop (i + 1) b) ≡ areConditions (getD v 0 0) (drop 1 v))
+  unfolding width least
+  conditions-here w =
+      let e = first (ends-least Conditions w) in
+      let r = conditions-same (getD v 0 0) (drop (i + 1) b) (drop 1 v) later (go e w) in
+      (ap (λ (n : ℕ). conditionsWidth n (drop (i + 1) b)) e ∙ r .0, ap (λ (n : ℕ). areConditions n (drop (i + 1) b)) e ∙ r .1)
+    where
+      later : (k : ℕ) → k < length (drop 1 v) → getD (drop (i + 1) b) k 0 ≡ getD (drop 1 v) k 0
+      later k h =
+          let s : i + 1 + k ≡ i + (1 + k) = omega arith in
+          getD-drop (i + 1) b k 0 ∙ ap (λ (j : ℕ). getD b j 0) s ∙ same (1 + k) (omega (arith, length-drop 1 v)) ∙ sym (getD-drop 1 v k 0)
+
+      go : getD b i 0 ≡ getD v 0 0 → Ends b v i Conditions
+          → (conditionsWidth (getD v 0 0) (drop 1 v) ≤ length (drop 1 v)) ⊎ (conditionsWidth (getD v 0 0) (drop (i + 1) b) ≤ length (drop 1 v))
+      go e (inl h) = inl (omega (arith, h, length-drop 1 v))
+      go e (inr h) = inr (omega (arith, h, length-drop 1 v, ap (λ (n : ℕ). conditionsWidth n (drop (i + 1) b)) e))
+
+  pub width-same : (f : Field) → Ends b v i f → width f b i ≡ width f v 0
   unfolding least width
   width-same Code h = refl
   width-same (UpTo m) h = refl
   width-same Second h = refl
   width-same (Free p) h = refl
-  width-same (Items ps) h = ap (λ (n : ℕ). 1 + n * rowSize ps) (first (omega arith))
+  width-same (Items ps) h = ap (λ (n : ℕ). 1 + n * rowSize ps) (first (ends-least (Items ps) h))
+  width-same Conditions h = ap (λ (n : ℕ). 1 + n) (conditions-here h .0)
   width-same Never h = refl
 
-  pub may-same : (f : Field) → least f ≤ length v → may f b i ≡ may f v 0
+  pub may-same : (f : Field) → Ends b v i f → may f b i ≡ may f v 0
   unfolding least may sixDigits wordAt
-  may-same Code h = rw (first (omega arith), same 1 (omega arith), same 2 (omega arith), same 3 (omega arith), same 4 (omega arith), same 5 (omega arith))
-  may-same (UpTo m) h = ap (λ (n : ℕ). leb n m) (first (omega arith))
-  may-same Second h = rw (first (omega arith), same 1 (omega arith), same 2 (omega arith), same 3 (omega arith))
+  may-same Code h =
+      let l = ends-least Code h in
+      rw (first (omega arith), same 1 (omega arith), same 2 (omega arith), same 3 (omega arith), same 4 (omega arith), same 5 (omega arith))
+  may-same (UpTo m) h = ap (λ (n : ℕ). leb n m) (first (ends-least (UpTo m) h))
+  may-same Second h = let l = ends-least Second h in rw (first (omega arith), same 1 (omega arith), same 2 (omega arith), same 3 (omega arith))
   may-same (Free p) h = refl
-  may-same (Items ps) h = ap isCount (first (omega arith))
+  may-same (Items ps) h = ap isCount (first (ends-least (Items ps) h))
+  may-same Conditions h = ap₂ _&&_ (ap isFew (first (ends-least Conditions h))) (conditions-here h .1)
   may-same Never h = refl
 
 -- ---- fields one after the other: writing
@@ -160,8 +215,8 @@ module _ (f : Field) (x : Value f) (p r : List ℕ) (n : narrow f ≡ true) (h :
   own : length (bytesOf f x) ≡ width f (bytesOf f x) 0
   own = bytes-are (width f (bytesOf f x) 0) (bytesOf f x) (field-bytes f x n h) .0
 
-  enough : least f ≤ length (bytesOf f x)
-  enough = omega (arith, own, least-width f (bytesOf f x) 0)
+  enough : Ends (p ++ (bytesOf f x ++ r)) (bytesOf f x) (length p) f
+  enough = inl (omega (arith, own))
 
   pub may-there : may f (p ++ (bytesOf f x ++ r)) (length p) ≡ true
   may-there = may-same (p ++ (bytesOf f x ++ r)) (bytesOf f x) (length p) there f enough ∙ field-may f x h
@@ -221,9 +276,9 @@ module _ (f : Field) (b : List ℕ) (i : ℕ) (a : areBytes b ≡ true) (h : may
   unfolding here part
   same-here k g = sym (getD-take (width f b i) (drop i b) k 0 (omega (arith, part-length i (width f b i) b l)) ∙ getD-drop i b k 0)
 
-  enough-here : least f ≤ length here
+  enough-here : Ends b here i f
   unfolding here
-  enough-here = omega (arith, part-length i (width f b i) b l, least-width f b i)
+  enough-here = inr (omega (arith, part-length i (width f b i) b l))
 
   may-here : may f here 0 ≡ true
   may-here = sym (may-same b here i same-here f enough-here) ∙ h

@@ -7,11 +7,13 @@ use native.Mathlib.Omega.{arith}
 use native.Mathlib.Nat.{mul-le-mul-right}
 use native.Mathlib.Decide.{decLe}
 use borrow.Author.Tests.{leb-true, eqb-true}
-use lib.ListN.{length, getD}
+use lib.ListN.{length, drop, getD}
 use lib.Dec.{leb, eqb}
 use Rattle.octets.proofs.Numbers.{both}
-use Rattle.rules.specs.Command.{isCount}
-use Rattle.frame.specs.Field.{Field, Code, UpTo, Second, Free, Items, Never, size, rowSize, width, may, areFields}
+use Rattle.rules.specs.Command.{isCount, isFew}
+use Rattle.frame_fields.specs.Conditions.{areConditions}
+use Rattle.frame.proofs.Texts.{conditions-most}
+use Rattle.frame.specs.Field.{Field, Code, UpTo, Second, Free, Items, Conditions, Never, size, rowSize, width, may, areFields}
 use Rattle.frame.specs.Frame.{Kind, kindByte, kinds, withByte, kindsAt, fieldsOf, layoutOf, layout, isFrame}
 use Rattle.frame.specs.Filled.{Filled}
 use Rattle.frame.proofs.Commands.{kind-none, Unless, unless-none}
@@ -48,15 +50,20 @@ most (UpTo m) = 1
 most Second = 4
 most (Free p) = size p
 most (Items ps) = 1 + 16 * rowSize ps
+most Conditions = 1 + 8 * 12
 most Never = 0
 
 within : (f : Field) (b : List ℕ) (i : ℕ) → may f b i ≡ true → width f b i ≤ most f
-unfolding most width may isCount
+unfolding most width may isCount isFew
 within Code b i e = omega arith
 within (UpTo m) b i e = omega arith
 within Second b i e = omega arith
 within (Free p) b i e = omega arith
 within (Items ps) b i e = omega (arith, mul-le-mul-right (rowSize ps) (leb-true (getD b i 0) 16 (both (leb 1 (getD b i 0)) _ e .1)))
+within Conditions b i e =
+    let n = getD b i 0 in
+    let q = both (isFew n) (areConditions n (drop (i + 1) b)) e in
+    omega (arith, conditions-most n (drop (i + 1) b) (q .1), leb-true n 8 (both (leb 1 n) _ (q .0) .1))
 within Never b i e = omega arith
 
 reach : List Field → ℕ

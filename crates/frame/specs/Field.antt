@@ -2,14 +2,15 @@
 -- value. Assumes nothing.
 use mathlib.Core.Bool.{Bool, true, false, _&&_}
 use mathlib.Core.List.{List, [], _∷_, _++_}
-use Prim.Native.Nat.{ℕ, zero, suc, _+_, _*_, _/_, _%_, _^_}
+use Prim.Native.Nat.{ℕ, zero, suc, _+_, _*_, _^_}
 use lib.ListN.{length, take, drop, getD}
 use lib.IntN.{ℤ}
 use lib.Dec.{leb, ltb, eqb}
 use Rattle.octets.specs.Octets.{bigEndian, number, isBytes, signed, isMoney, money, part}
-use Rattle.rules.specs.Command.{isCode, isCount, every}
-use Rattle.rules.specs.Message.{decimal}
+use Rattle.rules.specs.Command.{Condition, isCode, isCount, every, isCondition, isFew}
+use Rattle.rules.specs.Message.{decimal, digits}
 use Rattle.frame_fields.specs.Place.{sixDigits, wordAt}
+use Rattle.frame_fields.specs.Conditions.{conditionsIn, conditionsWidth, areConditions}
 
 -- a field that takes any bytes
 pub data Plain : Type 0 where
@@ -23,6 +24,7 @@ pub data Field : Type 0 where
   Second : Field  -- 4 bytes, at most 86,399
   Free : Plain → Field
   Items : List Plain → Field  -- a count of 1 to 16, and so many rows of these
+  Conditions : Field  -- a count of 1 to 8, and so many conditions
   Never : Field  -- no bytes are such a field
 
 -- ---- widths
@@ -43,6 +45,7 @@ width (UpTo m) b i = 1
 width Second b i = 4
 width (Free p) b i = size p
 width (Items ps) b i = 1 + getD b i 0 * rowSize ps
+width Conditions b i = 1 + conditionsWidth (getD b i 0) (drop (i + 1) b)
 width Never b i = 0
 
 -- ---- what the bytes may be
@@ -54,6 +57,7 @@ may (UpTo m) b i = leb (getD b i 0) m
 may Second b i = leb (wordAt b i) 86399
 may (Free p) b i = true
 may (Items ps) b i = isCount (getD b i 0)
+may Conditions b i = isFew (getD b i 0) && areConditions (getD b i 0) (drop (i + 1) b)
 may Never b i = false
 
 -- ---- values
@@ -73,6 +77,7 @@ Value (UpTo m) = ℕ
 Value Second = ℕ
 Value (Free p) = PlainValue p
 Value (Items ps) = List (Row ps)
+Value Conditions = List Condition
 Value Never = Unit {0}
 
 -- ---- values that have a place in the field
@@ -92,14 +97,10 @@ fits (UpTo m) n = leb n m
 fits Second n = leb n 86399
 fits (Free p) v = plainFits p v
 fits (Items ps) rs = isCount (length rs) && every (rowFits ps) rs
+fits Conditions cs = isFew (length cs) && every isCondition cs
 fits Never v = false
 
 -- ---- the bytes of a value
-
--- a number in so many ASCII digits
-unfoldable pub digits : ℕ → ℕ → List ℕ
-digits zero n = []
-digits (suc k) n = digits k (n / 10) ++ ((48 + n % 10) ∷ [])
 
 unfoldable pub plainBytes : (p : Plain) → PlainValue p → List ℕ
 plainBytes (Text k) l = l
@@ -114,12 +115,21 @@ unfoldable pub rowsBytes : (ps : List Plain) → List (Row ps) → List ℕ
 rowsBytes ps [] = []
 rowsBytes ps (r ∷ rs) = rowBytes ps r ++ rowsBytes ps rs
 
+-- a mode, a length and that much text
+unfoldable pub conditionBytes : Condition → List ℕ
+conditionBytes c = c .mode ∷ length (c .text) ∷ c .text
+
+unfoldable pub conditionsBytes : List Condition → List ℕ
+conditionsBytes [] = []
+conditionsBytes (c ∷ cs) = conditionBytes c ++ conditionsBytes cs
+
 unfoldable pub bytesOf : (f : Field) → Value f → List ℕ
 bytesOf Code c = digits 6 c
 bytesOf (UpTo m) n = n ∷ []
 bytesOf Second n = bigEndian 4 n
 bytesOf (Free p) v = plainBytes p v
 bytesOf (Items ps) rs = length rs ∷ rowsBytes ps rs
+bytesOf Conditions cs = length cs ∷ conditionsBytes cs
 bytesOf Never v = []
 
 -- ---- the value of bytes
@@ -143,6 +153,7 @@ valueOf (UpTo m) bs = getD bs 0 0
 valueOf Second bs = number bs
 valueOf (Free p) bs = plainValue p bs
 valueOf (Items ps) bs = rowsValue ps (getD bs 0 0) (drop 1 bs)
+valueOf Conditions bs = conditionsIn (getD bs 0 0) (drop 1 bs)
 valueOf Never bs = tt
 
 -- ---- a list of fields, one after the other

@@ -5,14 +5,14 @@ use mathlib.Core.List.{List, [], _∷_, map}
 use Prim.Native.Nat.{ℕ, _%_}
 use lib.ListN.{length, getD}
 use lib.Dec.{leb, eqb}
-use Rattle.rules.specs.Command.{Header, Item, Command, Bank, Branch, Funding, Withdrawal, BankLimits, Payment, Change, Deletion, Query, Opening, wellFormed}
+use Rattle.rules.specs.Command.{Header, Item, Command, Bank, Branch, Funding, Withdrawal, BankLimits, Payment, Change, Deletion, Query, Opening, Search, wellFormed}
 use Rattle.frame.specs.Hex.{allHex, unhex}
-use Rattle.frame.specs.Field.{Plain, Text, Word, Money, Field, Code, UpTo, Second, Free, Items, Never, Row, Values, areFields, allBytes, allValues}
+use Rattle.frame.specs.Field.{Plain, Text, Word, Money, Field, Code, UpTo, Second, Free, Items, Conditions, Never, Row, Values, areFields, allBytes, allValues}
 
 -- ---- the layout of each kind
 
 pub data Kind : Type 0 where
-  K01 K02 K03 K04 K05 K06 K07 K08 K09 K0a : Kind
+  K01 K02 K03 K04 K05 K06 K07 K08 K09 K0a K0b : Kind
 
 -- byte 0 is the kind
 unfoldable pub kindByte : Kind → ℕ
@@ -26,6 +26,7 @@ kindByte K07 = 7
 kindByte K08 = 8
 kindByte K09 = 9
 kindByte K0a = 10
+kindByte K0b = 11
 
 -- H is the header: C, 32 bytes of id, day, second
 abbrev pub headed : List Field → List Field
@@ -50,9 +51,10 @@ fieldsOf K07 = headed (Items itemRow ∷ [])
 fieldsOf K08 = headed (Free (Text 10) ∷ Free (Word 1) ∷ [])
 fieldsOf K09 = headed (Items idRow ∷ [])
 fieldsOf K0a = Free (Word 4) ∷ []
+fieldsOf K0b = headed (Conditions ∷ [])
 
 unfoldable pub kinds : List Kind
-kinds = K01 ∷ K02 ∷ K03 ∷ K04 ∷ K05 ∷ K06 ∷ K07 ∷ K08 ∷ K09 ∷ K0a ∷ []
+kinds = K01 ∷ K02 ∷ K03 ∷ K04 ∷ K05 ∷ K06 ∷ K07 ∷ K08 ∷ K09 ∷ K0a ∷ K0b ∷ []
 
 -- those of some kinds whose byte n is
 unfoldable pub withByte : ℕ → List Kind → List Kind
@@ -91,6 +93,7 @@ kindOf (Change h is) = K07
 kindOf (Deletion h i t) = K08
 kindOf (Query h is) = K09
 kindOf (Opening d) = K0a
+kindOf (Search h cs) = K0b
 
 unfoldable pub itemValues : Item → Row itemRow
 itemValues i = (i .account, (i .type, (i .value, tt)))
@@ -110,6 +113,7 @@ valuesOf (Change h is) = (h .sender, (h .id, (h .moment .day, (h .moment .second
 valuesOf (Deletion h i t) = (h .sender, (h .id, (h .moment .day, (h .moment .second, (i, (t, tt))))))
 valuesOf (Query h is) = (h .sender, (h .id, (h .moment .day, (h .moment .second, (map idValues is, tt)))))
 valuesOf (Opening d) = (d, tt)
+valuesOf (Search h cs) = (h .sender, (h .id, (h .moment .day, (h .moment .second, (cs, tt)))))
 
 abbrev pub headerOf : ℕ → List ℕ → ℕ → ℕ → Header
 headerOf sender id day second = record { sender = sender; id = id; moment = record { day = day; second = second } }
@@ -132,6 +136,7 @@ commandOf K07 v = Change (headerOf (v .0) (v .1 .0) (v .1 .1 .0) (v .1 .1 .1 .0)
 commandOf K08 v = Deletion (headerOf (v .0) (v .1 .0) (v .1 .1 .0) (v .1 .1 .1 .0)) (v .1 .1 .1 .1 .0) (v .1 .1 .1 .1 .1 .0)
 commandOf K09 v = Query (headerOf (v .0) (v .1 .0) (v .1 .1 .0) (v .1 .1 .1 .0)) (map idOf (v .1 .1 .1 .1 .0))
 commandOf K0a v = Opening (v .0)
+commandOf K0b v = Search (headerOf (v .0) (v .1 .0) (v .1 .1 .0) (v .1 .1 .1 .0)) (v .1 .1 .1 .1 .0)
 
 -- ---- the frame of a command, and the command of a frame
 

@@ -5,6 +5,7 @@ ghost use mathlib.Core.List.{[]};
 ghost use lib.ListN.{length};
 ghost use Rattle.frame.specs.Frame.{isFrame};
 use frame_fields::at;
+use frame_fields::conditions_at;
 use frame_fields::is_code_at;
 use frame_fields::rows_at;
 use frame_fields::second_at;
@@ -29,6 +30,7 @@ pub fn well_formed(b: &[u8]) -> bool
         8 => is_code_at(b, 1) & (second_at(b, 43) & (n == 58)),
         9 => is_code_at(b, 1) & (second_at(b, 43) & rows_at(b, 10)),
         10 => n == 5,
+        11 => is_code_at(b, 1) & (second_at(b, 43) & conditions_at(b)),
         _ => false,
     }
 }

@@ -17,10 +17,11 @@ use Rattle.octets.specs.Octets.{bigEndian, money, write}
 use Rattle.octets.proofs.Numbers.{length-bigEndian, both}
 use Rattle.octets.proofs.Places.{write-then, write-is}
 use Rattle.rules.specs.Command.{Command, every, wellFormed}
-use Rattle.frame.specs.Field.{Field, width, digits, bytesOf, fits, Values, allFit, allBytes}
+use Rattle.rules.specs.Message.{digits}
+use Rattle.frame.specs.Field.{Field, width, bytesOf, fits, Values, allFit, allBytes}
 use Rattle.frame.specs.Frame.{fieldsOf, kindOf, valuesOf, frameOf, given, commandFrame, writeFrame}
 use Rattle.frame.specs.Filled.{Filled}
-use Rattle.frame.proofs.Digits.{length-digits}
+use Rattle.rules.proofs.Digits.{length-digits}
 use Rattle.frame.proofs.Rows.{bytes-are}
 use Rattle.frame.proofs.Fields.{narrow, field-bytes}
 use Rattle.frame.proofs.Commands.{in-range, kind-known}

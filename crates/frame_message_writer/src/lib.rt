@@ -1,4 +1,4 @@
-// Frames written from limit messages and queries, kinds 07 to 09.
+// Frames written from limit messages, queries and searches, kinds 07 to 09 and 0b.
 ghost use mathlib.Core.Path.{_≡_};
 ghost use mathlib.Core.Bool.{_&&_};
 ghost use mathlib.Core.List.{[], _∷_, _++_, map};
@@ -6,19 +6,23 @@ ghost use Prim.Native.Nat.{_≤_};
 ghost use lib.ListN.{length};
 ghost use lib.Dec.{leb};
 ghost use Rattle.octets.specs.Octets.{bigEndian, part, write};
-ghost use Rattle.rules.specs.Command.{isCode, isCount};
+ghost use Rattle.rules.specs.Command.{isCode, isCount, isFew};
 ghost use Rattle.rules.specs.Command as Rule;
-ghost use Rattle.frame.specs.Field.{digits, rowsBytes};
+ghost use Rattle.rules.specs.Message.{digits};
+ghost use Rattle.frame_fields.specs.Conditions.{conditionsIn};
+ghost use Rattle.frame.specs.Field.{rowsBytes};
 ghost use Rattle.frame.specs.Frame.{itemRow, itemValues, commandFrame};
 ghost use Rattle.frame.specs.Filled.{Filled};
 ghost use Rattle.command.specs.View.{toHeader, itemsFrom, idsFrom};
 use command::Header;
 use command::is_header;
 use frame_code_writer::put_code;
+use frame_fields::conditions_end;
 use octet_writer::put_byte;
 use octet_writer::put_i64;
 use octet_writer::put_u32;
 use rules::is_count;
+use rules::is_few;
 use slices::copy;
 
 // Whether a message with n rows is in range.
@@ -115,4 +119,29 @@ pub fn write_query(
     put_byte(frame, 47, n as u8);
     copy(&accounts, 0, n * 10, frame, 48);
     48 + n * 10
+}
+
+// Whether a search's header and the count of its conditions are in range.
+fn search_fits(h: Header, n: usize) -> bool
+    ensures { λ r. ⌜ r ≡ ((isCode (h .sender) && leb (h .second) 86399) && isFew n) ⌝ }
+{
+    is_header(h) & is_few(n)
+}
+
+// 0b: header, count, conditions, which stand in the array as in the frame.
+pub fn write_search(h: Header, n: usize, id: [u8; 32], texts: [u8; 160], frame: &mut [u8]) -> usize
+    requires { ⌜ 352 ≤ length (now frame) ⌝ }
+    ensures { λ r. ⌜ Filled (commandFrame (Rule.Search (toHeader h id) (conditionsIn n texts) ∷ [])) (now (frame .entry)) (now (frame .exit)) r ⌝ }
+{
+    if !search_fits(h, n) {
+        return 0;
+    }
+    let end = conditions_end(&texts, 0, n);
+    if end == 0 {
+        return 0;
+    }
+    put_header(11, h, id, frame);
+    put_byte(frame, 47, n as u8);
+    copy(&texts, 0, end, frame, 48);
+    48 + end
 }

@@ -12,6 +12,7 @@ use frame_code_writer::put_code;
 use frame_message_writer::write_change;
 use frame_message_writer::write_deletion;
 use frame_message_writer::write_query;
+use frame_message_writer::write_search;
 use octet_writer::put_byte;
 use octet_writer::put_i64;
 use octet_writer::put_u32;
@@ -143,5 +144,6 @@ pub fn write_frame(o: Order, frame: &mut [u8]) -> usize
         Command::Deletion(h, limit) => write_deletion(h, limit, id, accounts, frame),
         Command::Query(h, n) => write_query(h, n, id, accounts, frame),
         Command::Opening(day) => write_opening(day, frame),
+        Command::Search(h, n) => write_search(h, n, id, accounts, frame),
     }
 }

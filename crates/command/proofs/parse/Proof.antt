@@ -109,6 +109,11 @@ opening-requires c κs =
 alone-requires-8 : tie.Need-alone-requires-8
 alone-requires-8 c κs = search needs
 
+search-requires : tie.Need-search-requires
+search-requires c κs =
+    let w = c .before .before .before in
+    (sym (w .well-formed .ensures) ∙ not-false _ (c .before .before .if1 .left), c .match .keys11)
+
 alone-requires-9 : tie.Need-alone-requires-9
 alone-requires-9 c κs = search needs
 
@@ -178,8 +183,11 @@ returns-11 c =
     ∙ sym (kind-command K0a b (sym (w .well-formed .ensures) ∙ not-false _ (c .before .before .before .before .if1 .left)) (c .before .before .match .keys10))
 
 returns-12 : tie.Need-returns-12
+returns-12 c = search needs
+
+returns-13 : tie.Need-returns-13
 unfolding kindByte kinds kindsAt Rest
-returns-12 c =
+returns-13 c =
     let w = c .before .before .before .before in
     let b = w .before .before .args .b .now in
     let none = kind-none b (rest-none (Unit {0}) kinds (getD b 0 0) (c .before .match .rest) .1) in
@@ -210,6 +218,7 @@ parse-spec =
     query-requires
     opening-requires
     alone-requires-8
+    search-requires
     alone-requires-9
     returns-2
     returns-3
@@ -221,4 +230,5 @@ parse-spec =
     returns-9
     returns-10
     returns-11
-    returns-12)
+    returns-12
+    returns-13)

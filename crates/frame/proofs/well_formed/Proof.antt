@@ -72,6 +72,15 @@ rows-at-requires-2 c κs = search needs
 is-code-at-requires-10 : tie.Need-is-code-at-requires-10
 is-code-at-requires-10 c κs = search needs
 
+second-at-requires-4 : tie.Need-second-at-requires-4
+second-at-requires-4 c κs = search needs
+
+conditions-at-requires : tie.Need-conditions-at-requires
+conditions-at-requires c κs = search needs
+
+is-code-at-requires-11 : tie.Need-is-code-at-requires-11
+is-code-at-requires-11 c κs = search needs
+
 returns : tie.Need-returns
 unfolding areFields may width size rowSize layout fieldsOf
 returns c =
@@ -130,24 +139,30 @@ returns-9 : tie.Need-returns-9
 unfolding areFields may width size rowSize layout fieldsOf
 returns-9 c =
     let a = c .before .before .before in
-    let r = a .match .rest in
-    kind-three _ _ _
-    (from-three _ (c .before .before .if1 .left) (r .0 .0 .0 .0 .0 .0 .0 .1) (r .0 .0 .0 .0 .0 .0 .1))
-    (c .before .if2 .taken)
-    (a .before .at .ensures)
-    (rw (c .is-code-at10 .ensures))
+    kind _ _ 11 _ (a .match .keys9) (a .before .at .ensures) (rw (c .conditions-at .ensures, c .before .second-at4 .ensures, c .before .before .is-code-at10 .ensures))
 
 returns-10 : tie.Need-returns-10
 unfolding areFields may width size rowSize layout fieldsOf
-returns-10 c = kind _ _ 0 _ (omega arith) (c .before .before .at .ensures) refl
+returns-10 c =
+    let a = c .before .before .before in
+    let r = a .match .rest in
+    kind-three _ _ _
+    (from-three _ (c .before .before .if1 .left) (r .0 .0 .0 .0 .0 .0 .0 .0 .1) (r .0 .0 .0 .0 .0 .0 .0 .1))
+    (c .before .if2 .taken)
+    (a .before .at .ensures)
+    (rw (c .is-code-at11 .ensures))
 
 returns-11 : tie.Need-returns-11
+unfolding areFields may width size rowSize layout fieldsOf
+returns-11 c = kind _ _ 0 _ (omega arith) (c .before .before .at .ensures) refl
+
+returns-12 : tie.Need-returns-12
 unfolding kindByte kinds Unless
-returns-11 c =
+returns-12 c =
     let r = c .before .before .match .rest in
     let h = c .if2 .left in
-    kind-other _ _ (c .before .before .before .at .ensures) (r .0 .0 .0 .0 .0 .0 .0 .1) (r .0 .0 .0 .0 .0 .0 .1) (λ e. omega arith) (λ e. omega arith)
-    (r .0 .0 .0 .0 .0 .1) (r .0 .0 .0 .0 .1) (r .0 .0 .0 .1) (r .0 .0 .1) (r .0 .1) (r .1)
+    kind-other _ _ (c .before .before .before .at .ensures) (r .0 .0 .0 .0 .0 .0 .0 .0 .1) (r .0 .0 .0 .0 .0 .0 .0 .1) (λ e. omega arith) (λ e. omega arith)
+    (r .0 .0 .0 .0 .0 .0 .1) (r .0 .0 .0 .0 .0 .1) (r .0 .0 .0 .0 .1) (r .0 .0 .0 .1) (r .0 .0 .1) (r .0 .1) (r .1)
 
 pub well-formed-spec : {M : Type 1} → statement M
 well-formed-spec =
@@ -174,6 +189,9 @@ well-formed-spec =
     second-at-requires-3
     rows-at-requires-2
     is-code-at-requires-10
+    second-at-requires-4
+    conditions-at-requires
+    is-code-at-requires-11
     returns
     returns-2
     returns-3
@@ -184,4 +202,5 @@ well-formed-spec =
     returns-8
     returns-9
     returns-10
-    returns-11)
+    returns-11
+    returns-12)

@@ -3,7 +3,7 @@ use lib.ListN.{length}
 use Rattle.octets.specs.Octets.{write}
 use Rattle.octets.proofs.Numbers.{length-bigEndian}
 use Rattle.octets.proofs.Places.{part-whole}
-use Rattle.frame.proofs.Digits.{length-digits}
+use Rattle.rules.proofs.Digits.{length-digits}
 use Rattle.frame_code_writer.proofs.Fields.{behind}
 use borrow.Author.Needs.{needs}
 use Rattle.frame_message_writer.proofs.put_header.Statement.{statement}

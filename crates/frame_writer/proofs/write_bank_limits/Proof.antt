@@ -1,4 +1,4 @@
-use Rattle.frame.proofs.Digits.{length-digits}
+use Rattle.rules.proofs.Digits.{length-digits}
 use Rattle.octets.proofs.Numbers.{fits-money, length-money}
 use Rattle.command.proofs.Forms.{limits-formed}
 use mathlib.Core.Path.{refl, sym, _∙_}

@@ -1,4 +1,4 @@
-use Rattle.frame.proofs.Digits.{length-digits}
+use Rattle.rules.proofs.Digits.{length-digits}
 use mathlib.Core.Path.{refl, sym, ap₂, _∙_}
 use mathlib.Core.Bool.{_&&_}
 use borrow.Author.Tests.{not-true, not-false}

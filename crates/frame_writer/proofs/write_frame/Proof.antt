@@ -81,6 +81,12 @@ enum-known-command-10 c = search needs
 write-opening-requires : tie.Need-write-opening-requires
 write-opening-requires c κs = search needs
 
+enum-known-command-11 : tie.Need-enum-known-command-11
+enum-known-command-11 c = search needs
+
+write-search-requires : tie.Need-write-search-requires
+write-search-requires c κs = search needs
+
 returns-2 : tie.Need-returns-2
 unfolding toCommands
 returns-2 c =
@@ -242,6 +248,21 @@ returns-12 c =
     (ordered-is (s .args .o) _ (k .command10 .given .1))
     (w .write-opening .ensures)
 
+same-length-11 : tie.Need-same-length-11
+same-length-11 c = search needs
+
+returns-13 : tie.Need-returns-13
+unfolding toCommands
+returns-13 c =
+    let w = c .before .before in
+    let k = w .before .before .before in
+    let x = k .command11 .given .0 in
+    let i = k .before .before .before .before .before .before in
+    let s = i .before .before in
+    with-room (ordered (s .args .o)) _ (s .args .frame .now) _ _ (omega (arith, i .if1 .left))
+    (ordered-is (s .args .o) _ (k .command11 .given .1))
+    (w .write-search .ensures)
+
 pub write-frame-spec : {M : Type 1} → statement M
 write-frame-spec =
     tie.close
@@ -268,6 +289,8 @@ write-frame-spec =
     write-query-requires
     enum-known-command-10
     write-opening-requires
+    enum-known-command-11
+    write-search-requires
     returns-2
     same-length
     returns-3
@@ -288,4 +311,6 @@ write-frame-spec =
     same-length-9
     returns-11
     same-length-10
-    returns-12)
+    returns-12
+    same-length-11
+    returns-13)

@@ -1,5 +1,5 @@
 use lib.Dec.{leb}
-use Rattle.frame.proofs.Digits.{length-digits}
+use Rattle.rules.proofs.Digits.{length-digits}
 use Rattle.octets.proofs.Numbers.{fits-money}
 use Rattle.command.proofs.Forms.{payment-formed}
 use mathlib.Core.Path.{refl, sym, ap, ap₂, _∙_}
