@@ -1,12 +1,10 @@
 // The query of limits, kind 09: its checks, its report, and its id in the book. The table stays as it is.
 ghost use mathlib.Core.Path.{_≡_};
-ghost use mathlib.Core.Bool.{not};
 ghost use mathlib.Core.List.{[], _∷_};
 ghost use Prim.Native.Nat.{_*_, _≤_};
 ghost use lib.ListN.{length, take};
 ghost use Rattle.rules.specs.Account.{among};
 ghost use Rattle.rules.specs.Command.{Query, some?};
-ghost use Rattle.rules.specs.Machine.{firstFailure};
 ghost use Rattle.rules.specs.Message as Message;
 ghost use Rattle.command.specs.View.{toHeader, idsFrom};
 ghost use Rattle.ledger.specs.Promise.{Sound, Played};
@@ -14,42 +12,16 @@ use book::add_id;
 use book::has_id;
 use command::Header;
 use command::is_header;
-use message_fields::is_current;
-use message_fields::is_message_id;
 use message_fields::named;
+use message_inquiry::Asked;
+use message_inquiry::header_answer;
 use report_blocks::put_report;
 use rules::first;
 use rules::is_count;
 use table::Table;
 use table::place;
 
-// What a query answers, how many places of the book are used, and the length of the report that was written.
-pub struct Asked {
-    pub answer: u64,
-    pub used: usize,
-    pub report_len: usize,
-}
-
 // ---- the checks
-
-// The checks before the account ids are looked at.
-fn header_answer(formed: bool, known: bool, listed: bool, id: &[u8], today: u32, day: u32) -> u64
-    ensures { λ r. ⌜ r ≡ firstFailure ((1, formed) ∷ (4, known) ∷ (14, not listed) ∷ (16, Message.isMessageId (now (id .entry))) ∷ (17, Message.isCurrent today day) ∷ []) ⌝ }
-{
-    first(
-        formed,
-        1,
-        first(
-            known,
-            4,
-            first(
-                !listed,
-                14,
-                first(is_message_id(id), 16, first(is_current(today, day), 17, 0)),
-            ),
-        ),
-    )
-}
 
 // Whether one of n account ids names one of the first `count` codes.
 fn any_known(codes: &[u32; 64], count: usize, accounts: &[u8], n: usize) -> bool

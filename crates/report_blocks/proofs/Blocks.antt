@@ -26,7 +26,8 @@ use Rattle.table.specs.View.{accountsOf, machineOf, placeOf}
 use Rattle.table.specs.Promise.{Good, Slot}
 use Rattle.table.proofs.Called.{every-sized, place-has}
 use Rattle.table.proofs.Found.{place-is, place-known, account-at}
-use Rattle.report_blocks.specs.Written.{Written, Reportable}
+use Rattle.octet_writer.specs.Written.{Written}
+use Rattle.report_blocks.specs.Reportable.{Reportable}
 
 -- ---- lengths
 

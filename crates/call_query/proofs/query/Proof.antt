@@ -6,13 +6,13 @@ use mathlib.Core.Bool.{Bool, cond, _&&_}
 use mathlib.Core.List.{List}
 use Prim.Native.Nat.{ℕ, _≤_, _<_}
 use lib.Dec.{leb}
-use lib.ListN.{length, take}
+use lib.ListN.{length}
 use mir.Syntax.{w32}
 use mir.Val.{Fits}
 use Rattle.rules.specs.Account.{among, known}
 use Rattle.rules.specs.Command as Rule
 use Rattle.rules.specs.Command.{Query, some?, isCode, isCount, wellFormed}
-use Rattle.rules.specs.Machine.{Machine, checks, firstFailure, answer}
+use Rattle.rules.specs.Machine.{Machine, answer}
 use Rattle.rules.specs.Message.{named}
 use Rattle.frame.proofs.Rows.{is-bytes}
 use Rattle.command.specs.View.{toHeader, idsFrom}
@@ -24,7 +24,8 @@ use Rattle.table.proofs.Places.{length-mapped}
 use Rattle.ledger.specs.View.{viewOf, lent}
 use Rattle.ledger.proofs.Laws.{good-table}
 use Rattle.report_blocks.proofs.Blocks.{report-most, report-written}
-use Rattle.call_query.proofs.Laws.{played-no, played-yes, early-checks, late-checks, early-refused, late-answer, early-room, room}
+use Rattle.message_inquiry.proofs.Laws.{Inquired, inquired, played-no, played-yes}
+use Rattle.call_query.proofs.Laws.{query-checks, query-step}
 use Rattle.call_query.proofs.query.Statement.{statement}
 use Rattle.call_query.proofs.query.Tie as tie
 
@@ -71,24 +72,20 @@ formed s =
 abbrev entry : tie.After-header-answer → tie.Start
 entry c = c .before .before .before .before .before .before .before .before .before .before .before .before
 
-answered : (c : tie.After-header-answer) → c .header-answer .result ≡ firstFailure (take 5 (checks (seen (entry c)) (length (entry c .args .report .now)) (asked (entry c))))
+known-from : (c : tie.After-header-answer) → Inquired (asked (entry c)) (entry c .args .t) (entry c .args .ids .now) (entry c .args .days .now) (entry c .args .used) (entry c .args .report .now) 913 (some? (λ i. known (named i) (accountsOf (entry c .args .t))) (rows (entry c))) (c .header-answer .result)
 unfolding toHeader
-answered c =
+known-from c =
     let s = entry c in
     let p = c .before .before .before .before .before .before .place in
-    c .header-answer .ensures
-    ∙ early-checks (head s) (rows s) (s .args .t) (s .args .ids .now) (s .args .days .now) (s .args .used) (s .args .report .now) (s .pre) _ _ _
+    inquired (asked s) (head s) (s .args .t) (s .args .ids .now) (s .args .days .now) (s .args .used) (s .args .report .now) (s .pre) 913 (some? (λ i. known (named i) (accountsOf (s .args .t))) (rows s))
+    (query-checks (head s) (rows s) (s .args .t) (s .args .ids .now) (s .args .days .now) (s .args .used) (s .args .report .now)) _ _ _
     (ap (λ (b : Bool). b && leb 913 (length (s .args .report .now)))
     (ap₂ _&&_ (c .before .before .before .before .before .before .before .before .before .is-header .ensures) (c .before .before .before .before .before .before .before .before .is-count .ensures) ∙ sym (formed s)))
     (place-known (s .args .t) (good s) (accounts-long s) (s .args .header .sender) (p .result) (p .ensures))
-    (c .before .before .has-id .ensures (s .args .days .now))
+    (c .before .before .has-id .ensures (s .args .days .now)) (c .header-answer .result) (c .header-answer .ensures)
 
--- what they say where they pass
-few : (c : tie.After-header-answer) → c .header-answer .result ≡ 0 → (entry c .args .n ≤ 16) × (913 ≤ length (entry c .args .report .now))
-few c z =
-    let s = entry c in
-    let r = early-room (head s) (rows s) (s .args .t) (s .args .ids .now) (s .args .days .now) (s .args .used) (s .args .report .now) (s .pre) (sym (answered c) ∙ z) in
-    (count-most (s .args .header) (s .args .n) (sym (formed s) ∙ r .0), r .1)
+few : (c : tie.After-header-answer) → c .header-answer .result ≡ 0 → entry c .args .n ≤ 16
+few c z = let s = entry c in count-most (s .args .header) (s .args .n) (sym (formed s) ∙ known-from c .formed z)
 
 -- ---- all checks
 
@@ -102,18 +99,14 @@ decided c =
     let y = c .before .before .any-known in
     c .first2 .ensures
     ∙ ap (λ (n : ℕ). cond (y .result) n 21) (c .before .first .ensures)
-    ∙ late-checks (head s) (rows s) (s .args .t) (s .args .ids .now) (s .args .days .now) (s .args .used) (s .args .report .now) (s .pre) (y .result)
+    ∙ known-from (early c) .decides (c .before .before .before .before .before .if1 .left) (y .result)
     (y .ensures ∙ ap (λ (cs : List ℕ). some? (λ i. among (named i) cs) (rows s)) (s .pre .same))
-    ∙ late-answer (head s) (rows s) (s .args .t) (s .args .ids .now) (s .args .days .now) (s .args .used) (s .args .report .now) (s .pre)
-    (sym (answered (early c)) ∙ c .before .before .before .before .before .if1 .left)
 
 accepted : (c : tie.Else2) → right (entry (early (c .before))) ≡ 0
 accepted c = sym (decided (c .before)) ∙ c .if2 .left
 
 has-place : (c : tie.Else2) → entry (early (c .before)) .args .used < 1024
-has-place c =
-    let s = entry (early (c .before)) in
-    room (head s) (rows s) (s .args .t) (s .args .ids .now) (s .args .days .now) (s .args .used) (s .args .report .now) (s .pre) (accepted c)
+has-place c = known-from (early (c .before)) .placed (accepted c)
 
 -- ---- the needs
 
@@ -143,8 +136,7 @@ returns c =
     let s = entry (c .before) in
     let a = c .before .header-answer .result in
     played-no (asked s) (s .args .t) (s .args .ids .now) (s .args .days .now) (s .args .used) (s .args .report .now) (s .pre) a
-    (early-refused (head s) (rows s) (s .args .t) (s .args .ids .now) (s .args .days .now) (s .args .used) (s .args .report .now) (s .pre) a (answered (c .before)) (c .if1 .taken))
-    (c .if1 .taken)
+    (known-from (c .before) .refuses (c .if1 .taken)) (c .if1 .taken)
 
 slice-aggregate-any-known : tie.Need-slice-aggregate-any-known
 slice-aggregate-any-known c = sym (rows-long (c .before .before .before .before .before .before .before .before .before .before .before .before .before .before .before))
@@ -152,7 +144,7 @@ slice-aggregate-any-known c = sym (rows-long (c .before .before .before .before 
 any-known-requires : tie.Need-any-known-requires
 any-known-requires c κs =
     let s = c .before .before .before .before .before .before .before .before .before .before .before .before .before .before .before in
-    (s .pre .within, codes-long s, omega (arith, rows-long s, few (c .before .before .before) (c .before .before .if1 .left) .0))
+    (s .pre .within, codes-long s, omega (arith, rows-long s, few (c .before .before .before) (c .before .before .if1 .left)))
 
 first-requires : tie.Need-first-requires
 first-requires c κs = search needs
@@ -169,8 +161,9 @@ returns-2 c =
 put-report-requires : tie.Need-put-report-requires
 put-report-requires c κs =
     let s = c .before .before .before .before .before .before .before .before .before .before .before .before .before .before .before .before .before .before .before .before in
-    let f = few (c .before .before .before .before .before .before .before .before) (c .before .before .before .before .before .before .before .if1 .left) in
-    (good s, f .0, omega (arith, f .0, f .1))
+    let k = c .before .before .before .before .before .before .before .before in
+    let z = c .before .before .before .before .before .before .before .if1 .left in
+    (good s, few k z, omega (arith, few k z, known-from k .roomy z))
 
 slice-aggregate-add-id : tie.Need-slice-aggregate-add-id
 slice-aggregate-add-id c = sym (id-long (c .before .before .before .before .before .before .before .before .before .before .before .before .before .before .before .before .before .before .before .before .before .before .before .before .before .before))
@@ -189,13 +182,15 @@ unfolding toHeader
 returns-3 c =
     let s = c .before .before .before .before .before .before .before .before .before .before .before .before .before .before .before .before .before .before .before .before .before .before .before .before .before .before .before in
     let e = c .before .before .before .before .before .before .before .before in
-    let f = few (early (e .before)) (c .before .before .before .before .before .before .before .before .before .before .before .before .before .before .if1 .left) in
+    let k = early (e .before) in
+    let z = c .before .before .before .before .before .before .before .before .before .before .before .before .before .before .if1 .left in
     let w = c .before .before .before .before .before .before .put-report in
     let xs = accountsOf (s .args .t) in
-    played-yes (head s) (rows s) (s .args .t) (s .args .ids .now) (s .args .days .now) (s .args .used) (s .args .report .now) (s .pre) _ _ _ (w .result)
-    (accepted e) (has-place e) (c .add-id .ensures)
-    (report-written (head s) xs (s .args .t7) (s .args .n) (s .args .report .now) _ (w .result) (w .ensures))
-    (omega (arith, w .ensures .behind, report-most (s .args .header .sender) xs (s .args .t7) (s .args .n), f .0, f .1))
+    let r = report-written (head s) xs (s .args .t7) (s .args .n) (s .args .report .now) _ (w .result) (w .ensures) in
+    played-yes (asked s) (head s) (s .args .t) (s .args .ids .now) (s .args .days .now) (s .args .used) (s .args .report .now) (s .pre)
+    (query-step (head s) (rows s) (s .args .t) (s .args .ids .now) (s .args .days .now) (s .args .used) (s .args .report .now)) _ _ _ (w .result)
+    (accepted e) (has-place e) (c .add-id .ensures) (r .bytes) (omega (arith, r .behind))
+    (omega (arith, w .ensures .behind, report-most (s .args .header .sender) xs (s .args .t7) (s .args .n), few k z, known-from k .roomy z))
 
 pub query-spec : {M : Type 1} → statement M
 query-spec =

@@ -9,7 +9,7 @@ use Rattle.rules.specs.Report.{block, blocks}
 use Rattle.command.specs.View.{idsFrom}
 use Rattle.table.specs.View.{accountsOf}
 use Rattle.table.proofs.Places.{length-mapped}
-use Rattle.report_blocks.specs.Written.{Written}
+use Rattle.octet_writer.specs.Written.{Written}
 use Rattle.report_blocks.proofs.Blocks.{report-none, report-room, report-more, report-whole, place-reportable, place-block}
 use Rattle.report_blocks.proofs.put_report.Statement.{statement}
 use Rattle.report_blocks.proofs.put_report.Tie as tie

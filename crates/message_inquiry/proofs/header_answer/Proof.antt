@@ -1,8 +1,8 @@
 -- The checks before the account ids. Assumes nothing.
 use Rattle.rules.specs.Machine.{firstFailure}
 use borrow.Author.Needs.{needs}
-use Rattle.call_query.proofs.header_answer.Statement.{statement}
-use Rattle.call_query.proofs.header_answer.Tie as tie
+use Rattle.message_inquiry.proofs.header_answer.Statement.{statement}
+use Rattle.message_inquiry.proofs.header_answer.Tie as tie
 
 is-message-id-requires : tie.Need-is-message-id-requires
 is-message-id-requires c κs = search needs
