@@ -32,7 +32,7 @@ module _ (cs : List Command) (t : Table) (ids days : List ℕ) (used : ℕ) (rep
       → r ≡ record { answer = o .answer; table = o .table; used = used; «report_len» = 0 } → Played cs t ids days used report r ids days report
   by-table k o e s p g c i = by-book k (record { answer = o .answer; table = o .table; used = used }) ids days e s (settled-table k t ids days used o p g c) i
 
-  -- a query: the table is the one that was given
+  -- a query or a search: the table is the one that was given
   pub by-report : (k : Command) (answer used′ len : ℕ) (ids′ days′ report′ : List ℕ) → cs ≡ k ∷ []
       → Played (k ∷ []) t ids days used report (record { answer = answer; table = t; used = used′; «report_len» = len }) ids′ days′ report′
       → r ≡ record { answer = answer; table = t; used = used′; «report_len» = len } → Played cs t ids days used report r ids′ days′ report′

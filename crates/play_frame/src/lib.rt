@@ -11,12 +11,13 @@ use call_deletion::deletion;
 use call_funds::fund;
 use call_funds::withdraw;
 use call_payment::pay;
-use call_query::Asked;
 use call_query::query;
+use call_search::search;
 use command::Command;
 use command::parse;
 use ledger::Noted;
 use ledger::Stepped;
+use message_inquiry::Asked;
 use table::Reply;
 use table::Table;
 
@@ -46,7 +47,7 @@ fn on_book(n: Noted) -> Stepped
     }
 }
 
-// A query, which leaves the table as it is.
+// A query or a search, which leaves the table as it is.
 fn on_report(q: Asked, t: Table) -> Stepped
     ensures { λ r. ⌜ r ≡ record { answer = q .answer; table = t; used = q .used; «report_len» = q .«report_len» } ⌝ }
 {
@@ -104,5 +105,9 @@ pub fn step(
         }
         Command::Query(h, n) => on_report(query(t, ids, days, used, h, id, accounts, n, report), t),
         Command::Opening(d) => on_book(open(t, ids, days, used, d)),
+        Command::Search(h, n) => on_report(
+            search(t, ids, days, used, h, id, accounts, n, report),
+            t,
+        ),
     }
 }

@@ -85,8 +85,8 @@ pub fn play_lines(
                 t.accounts[j] = set_item(t.accounts[j], item, change.day, change.second);
                 k += 1;
             }
-        } else if (n != 0) & (frame[0] == 9) {
-            // A query leaves the table as it is.
+        } else if (n != 0) & ((frame[0] == 9) | (frame[0] == 11)) {
+            // A query and a search leave the table as it is.
             let q = ask(t, ids, days, used, &frame[..n], &mut report);
             used = q.used;
             answer = q.answer;

@@ -1,12 +1,12 @@
-// Frames played past `step`, so that the table does not come back: a query leaves it as it is, of a change the items come back, and of a command that changes
-// one account that account.
+// Frames played past `step`, so that the table does not come back: a query and a search leave it as it is, of a change the items come back, and of a command
+// that changes one account that account.
 ghost use mathlib.Core.Path.{_≡_};
 ghost use mathlib.Core.Bool.{true};
 ghost use lib.ListN.{getD};
 ghost use Rattle.frame.specs.Frame.{isFrame, commandsOf};
 ghost use Rattle.ledger.specs.Promise.{Sound, Played, PlayedAt};
 ghost use Rattle.call_change.specs.Plan.{Planned};
-ghost use Rattle.play_message.specs.Kinds.{amendsOne};
+ghost use Rattle.play_message.specs.Kinds.{inquires, amendsOne};
 use account::Owner;
 use account::opened;
 use call_bank_limits::bank_limited;
@@ -15,16 +15,17 @@ use call_change::judge;
 use call_deletion::limit_deleted;
 use call_funds::funded;
 use call_funds::withdrawn;
-use call_query::Asked;
 use call_query::query;
+use call_search::search;
 use command::Command;
 use command::parse;
 use ledger::Entered;
+use message_inquiry::Asked;
 use message_items::records;
 use table::Amended;
 use table::Table;
 
-// A query, as `step` plays it. Kind 09 is a query's and no other's, so the second arm is never taken.
+// A query or a search, as `step` plays it. Kinds 09 and 0b are theirs and no other's, so the last arm is never taken.
 pub fn ask(
     t: Table,
     ids: &mut [u8; 32768],
@@ -33,7 +34,7 @@ pub fn ask(
     frame: &[u8],
     report: &mut [u8],
 ) -> Asked
-    requires { ⌜ (isFrame (now frame) ≡ true) × (getD (now frame) 0 0 ≡ 9) × Sound t (now ids) (now days) used ⌝ }
+    requires { ⌜ (isFrame (now frame) ≡ true) × (inquires (getD (now frame) 0 0) ≡ true) × Sound t (now ids) (now days) used ⌝ }
     ensures { λ r. ⌜ Played (commandsOf (now (frame .entry))) t (now (ids .entry)) (now (days .entry)) used (now (report .entry)) (record { answer = r .answer; table = t; used = r .used; «report_len» = r .«report_len» }) (now (ids .exit)) (now (days .exit)) (now (report .exit)) ⌝ }
 {
     let order = parse(frame);
@@ -42,6 +43,7 @@ pub fn ask(
     let accounts = order.accounts;
     match command {
         Command::Query(h, n) => query(t, ids, days, used, h, id, accounts, n, report),
+        Command::Search(h, n) => search(t, ids, days, used, h, id, accounts, n, report),
         _ => Asked {
             answer: 1,
             used: used,

@@ -131,6 +131,15 @@ open-requires c κs = c .before .before .before .before .before .before .before 
 on-book-requires-3 : tie.Need-on-book-requires-3
 on-book-requires-3 c κs = search needs
 
+enum-known-command-11 : tie.Need-enum-known-command-11
+enum-known-command-11 c = search needs
+
+search-requires : tie.Need-search-requires
+search-requires c κs = c .before .before .before .before .before .before .before .before .before .before .before .before .before .pre
+
+on-report-requires-2 : tie.Need-on-report-requires-2
+on-report-requires-2 c κs = search needs
+
 returns : tie.Need-returns
 unfolding toCommands
 returns c =
@@ -242,6 +251,19 @@ returns-11 c =
     by-book (commandsOf (a .frame .now)) (a .t) (a .ids .now) (a .days .now) (a .used) (a .report .now) (c .on-book3 .result) _ (c .before .«open» .result) _ _
     (sym (p .ensures) ∙ ordered-is (p .result) _ (c .before .before .before .before .before .command10 .given .1)) tt (c .before .«open» .ensures) (c .on-book3 .ensures)
 
+same-length-2 : tie.Need-same-length-2
+same-length-2 c = search needs
+
+returns-12 : tie.Need-returns-12
+unfolding toCommands
+returns-12 c =
+    let s = c .before .before .before .before .before .before .before .before .before .before .before .before .before .before .before .before .before in
+    let a = s .args in
+    let p = c .before .before .before .before .before .before .before .before .before .before .before .before .before .before .parse in
+    let q = c .before .before .before .search in
+    by-report (commandsOf (a .frame .now)) (a .t) (a .ids .now) (a .days .now) (a .used) (a .report .now) (c .on-report2 .result) _ (q .result .answer) (q .result .used) (q .result .«report_len») _ _ _
+    (sym (p .ensures) ∙ ordered-is (p .result) _ (c .before .before .before .before .before .before .before .before .command11 .given .1)) (q .ensures) (c .on-report2 .ensures)
+
 pub step-spec : {M : Type 1} → statement M
 step-spec =
     tie.close
@@ -279,6 +301,9 @@ step-spec =
     enum-known-command-10
     open-requires
     on-book-requires-3
+    enum-known-command-11
+    search-requires
+    on-report-requires-2
     returns
     returns-2
     returns-3
@@ -290,4 +315,6 @@ step-spec =
     returns-9
     same-length
     returns-10
-    returns-11)
+    returns-11
+    same-length-2
+    returns-12)

@@ -9,7 +9,7 @@ use lib.Seq.{length-take-le}
 use Rattle.table.proofs.Places.{length-mapped}
 use Rattle.call_payment.proofs.Parties.{all-sized}
 use Rattle.call_payment.proofs.Calls.{out-room, own-out-room, in-room, own-in-room}
-use Rattle.play_message.specs.Kinds.{amendsOne}
+use Rattle.play_message.specs.Kinds.{inquires, amendsOne}
 use Rattle.lines.proofs.Next.{next-is}
 use Rattle.play_lines.proofs.Laws.{small, same-report, begin, turn, all-chosen}
 use Rattle.play_lines.proofs.Turns.{frame-long, test-formed, kind-formed, set-none, set-one}
@@ -229,6 +229,9 @@ loop2-again c =
 array-read-if4 : tie.Need-array-read-if4 Inv-loop2 μ-loop2 Inv-loop μ-loop
 array-read-if4 c = omega arith
 
+array-read-if4-2 : tie.Need-array-read-if4-2 Inv-loop2 μ-loop2 Inv-loop μ-loop
+array-read-if4-2 c = omega arith
+
 array-share-prefix-frame-4 : tie.Need-array-share-prefix-frame-4 Inv-loop2 μ-loop2 Inv-loop μ-loop
 array-share-prefix-frame-4 c = within (c .before .before .before .before .before)
 
@@ -240,7 +243,7 @@ slice-aggregate-ask-2 c = sym (at (c .before .before .before .before .before .be
 
 ask-requires : tie.Need-ask-requires Inv-loop2 μ-loop2 Inv-loop μ-loop
 ask-requires c κs = let b = c .before .before .before .before in let f = b .before .before .before in
-    let q = kind-formed (line f) _ _ (here f) 9 (b .if4 .taken) in (q .0, q .1, sound f)
+    let q = test-formed (line f) _ _ (here f) inquires (b .if4 .taken) in (q .0, q .1, sound f)
 
 array-read-amends-one : tie.Need-array-read-amends-one Inv-loop2 μ-loop2 Inv-loop μ-loop
 array-read-amends-one c = omega arith
@@ -402,6 +405,7 @@ play-lines-spec =
     loop2-less
     loop2-again
     array-read-if4
+    array-read-if4-2
     array-share-prefix-frame-4
     slice-aggregate-ask
     slice-aggregate-ask-2

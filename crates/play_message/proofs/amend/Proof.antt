@@ -1,17 +1,20 @@
 -- A frame of a kind that changes one account, played. Assumes nothing.
-use mathlib.Core.Path.{sym, ap, ap₂, _∙_}
+use mathlib.Core.Path.{refl, sym, ap, ap₂, _∙_}
 use mathlib.Core.List.{[], _∷_}
 use lib.IntN.{ℤ}
 use mir.Syntax.{w64}
 use mir.Val.{SFits}
 use mir.Facts.{toZ-ofZ}
 use Rattle.rules.specs.Command as Rule
+use Rattle.rules.specs.Command.{every}
 use Rattle.frame.specs.Frame.{commandsOf}
 use Rattle.command.specs.View.{toCommands}
 use Rattle.command.proofs.ByKind.{ordered-is}
 use Rattle.table.specs.Promise.{Good}
 use Rattle.ledger.proofs.Laws.{good-table}
-use Rattle.play_message.proofs.Amending.{amend-held, at-table, at-book}
+use Rattle.play_message.proofs.Held.{others}
+use Rattle.play_message.proofs.Amending.{at-table, at-book}
+use Rattle.play_message.specs.Kinds.{amendsOne}
 use borrow.Author.Needs.{needs}
 use Rattle.play_message.proofs.amend.Statement.{statement}
 use Rattle.play_message.proofs.amend.Tie as tie
@@ -101,10 +104,11 @@ returns-4 c =
     (sym (p .ensures) ∙ ordered-is (p .result) _ (c .before .before .before .before .command4 .given .1)) tt _ _ (c .limit-deleted .ensures)
 
 returns-5 : tie.Need-returns-5
+unfolding every
 returns-5 c =
     let s = c .before .before .before .before .before .before in
     let p = c .before .before .before .before .parse in
-    absurd (amend-held (s .args .frame .now) (p .result) (s .pre .0) (s .pre .1) (p .ensures) (c .before .match .keys5))
+    absurd (others (s .args .frame .now) (p .result) (s .pre .0) (p .ensures) amendsOne (0 ∷ 1 ∷ 2 ∷ 6 ∷ 7 ∷ 9 ∷ 10 ∷ 11 ∷ []) refl (s .pre .1) (c .before .match .keys5))
 
 pub amend-spec : {M : Type 1} → statement M
 amend-spec =

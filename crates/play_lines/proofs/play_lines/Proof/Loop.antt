@@ -122,8 +122,8 @@ last3 c = c .before .before
 abbrev pub last4 : tie.After-own-in Inv-loop2 μ-loop2 Inv-loop μ-loop → tie.After-bank-in Inv-loop2 μ-loop2 Inv-loop μ-loop
 last4 c = c .before .before
 
--- ---- what the turn left behind: of a payment accepted, of one refused, of a change, of a query, of a command that changes one account, of any other
--- frame or none
+-- ---- what the turn left behind: of a payment accepted, of one refused, of a change, of a query or a search, of a command that changes one account, of any
+-- other frame or none
 
 pub went : (c : tie.Joined1 Inv-loop2 μ-loop2 Inv-loop μ-loop) → let f = c .before in let v = at f .before .loop in
     Turned (line f) (v .t) (v .ids) (v .days) (v .used) (v .report) (c .if1 .t) (c .if1 .answer) (c .if1 .used) (c .if1 .length) (c .if1 .ids) (c .if1 .days) (c .if1 .report)
