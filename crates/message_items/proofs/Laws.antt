@@ -10,7 +10,6 @@ use lib.IntN.{ℤ, pos}
 use borrow.Author.Tests.{ltb-true, ltb-false}
 use lib.ListN.{length, take, getD, set, List·getD-eq-default}
 use lib.Seq.{take-suc, take-all, take-suc-set}
-use Rattle.rules.specs.Command as Rule
 use Rattle.rules.specs.Command.{every}
 use Rattle.rules.specs.Message.{named}
 use Rattle.octets.specs.Octets.{part}
