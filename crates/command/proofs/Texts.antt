@@ -1,14 +1,14 @@
 -- The conditions of a search in an array: when they are in range, and their bytes, which stand there as they are. Assumes nothing.
 use mathlib.Core.Path.{_≡_, refl, sym, ap, ap₂, _∙_}
 use mathlib.Core.Bool.{Bool, true, false, cond, _&&_, and-true}
-use mathlib.Core.List.{List, [], _∷_}
+use mathlib.Core.List.{List}
 use Prim.Native.Nat.{ℕ, zero, suc, _+_, _-_, _*_, _^_, _≤_, _<_, min}
 use native.Mathlib.Omega.{arith}
 use native.Mathlib.Decide.{decLe}
 use lib.ListN.{length, drop, getD, length-take, length-drop}
-use lib.Dec.{leb, ltb}
+use lib.Dec.{leb}
 use Rattle.octets.specs.Octets.{areBytes, isBytes, part}
-use Rattle.octets.proofs.Numbers.{both, bytes-part}
+use Rattle.octets.proofs.Numbers.{both, bytes-drop, bytes-part}
 use Rattle.octets.proofs.Places.{part-length}
 use Rattle.rules.specs.Command.{Search, every, isCode, isHeader, isForm, isCondition, isFew, wellFormed}
 use Rattle.rules.proofs.Selection.{formed}
@@ -46,13 +46,6 @@ unfolding isCondition firstOf
 first-range v h b =
     ap₂ _&&_ (form-same (getD v 0 0) (getD v 1 0) v h) (bytes-part 2 (getD v 1 0) v b) ∙ and-true (isForm (getD v 0 0) (getD v 1 0))
 
-bytes-behind : (k : ℕ) (v : List ℕ) → areBytes v ≡ true → areBytes (drop k v) ≡ true
-unfolding areBytes
-bytes-behind zero [] h = h
-bytes-behind zero (x ∷ v) h = h
-bytes-behind (suc k) [] h = h
-bytes-behind (suc k) (x ∷ v) h = bytes-behind k v (both (ltb x 256) (areBytes v) h .1)
-
 and-both : (a b c d : Bool) → a ≡ c → (c ≡ true → b ≡ d) → (a && b) ≡ (c && d)
 and-both a b true d e f = ap₂ _&&_ e (f refl)
 and-both a b false d e f = ap (λ (t : Bool). t && b) e
@@ -63,7 +56,7 @@ unfolding every conditionsIn areConditions firstWidth
 conditions-range zero v h b = refl
 conditions-range (suc n) v h b =
     and-both _ _ _ _ (first-range v (omega arith) b)
-    (λ f. conditions-range n (drop (firstWidth v) v) (omega (arith, length-drop (firstWidth v) v, width f)) (bytes-behind (firstWidth v) v b))
+    (λ f. conditions-range n (drop (firstWidth v) v) (omega (arith, length-drop (firstWidth v) v, width f)) (bytes-drop (firstWidth v) v b))
   where
     width : isForm (getD v 0 0) (getD v 1 0) ≡ true → firstWidth v ≤ 12
     width f = omega (arith, formed (getD v 0 0) (getD v 1 0) f .short)

@@ -43,9 +43,9 @@ module _ (b : List ℕ) (at : ℕ) where
   first-here = rw (mode-here, size-here, drop-drop 2 at b)
 
   module _ (n : ℕ) where
-    listed-first : (p : Condition → Bool) → some? p (conditionsIn (suc n) (drop at b)) ≡ (p (conditionAt b at) || some? p (conditionsIn n (drop (behind b at) b)))
+    test-one : (p : Condition → Bool) → some? p (conditionsIn (suc n) (drop at b)) ≡ (p (conditionAt b at) || some? p (conditionsIn n (drop (behind b at) b)))
     unfolding conditionsIn some?
-    listed-first p = ap₂ (λ (c : Condition) (bs : List ℕ). p c || some? p (conditionsIn n bs)) first-here rest-here
+    test-one p = ap₂ (λ (c : Condition) (bs : List ℕ). p c || some? p (conditionsIn n bs)) first-here rest-here
 
     module _ (l : ConditionsFirst (suc n) (drop at b)) where
       parts : (isForm (getD b at 0) (getD b (at + 1) 0) ≡ true) × (areConditions n (drop (behind b at) b) ≡ true)
@@ -58,14 +58,14 @@ module _ (b : List ℕ) (at : ℕ) where
       unfolding conditionsWidth
       reach = omega (arith, l .within, width-here, ap (conditionsWidth n) rest-here)
 
-      listed-form : isForm (getD b at 0) (getD b (at + 1) 0) ≡ true
-      listed-form = parts .0
+      form-one : isForm (getD b at 0) (getD b (at + 1) 0) ≡ true
+      form-one = parts .0
 
-      listed-room : behind b at ≤ length b
-      listed-room = omega (arith, reach, length-drop at b)
+      room-one : behind b at ≤ length b
+      room-one = omega (arith, reach, length-drop at b)
 
-      first-next : ConditionsFirst n (drop (behind b at) b)
-      first-next = record { formed = parts .1; within = omega (arith, reach, length-drop at b, length-drop (behind b at) b) }
+      next-one : ConditionsFirst n (drop (behind b at) b)
+      next-one = record { formed = parts .1; within = omega (arith, reach, length-drop at b, length-drop (behind b at) b) }
 
 -- ---- some are left
 
@@ -74,20 +74,20 @@ module _ (b : List ℕ) (at left : ℕ) (h : 0 < left) where
   one = omega arith
 
   walk-first : (p : Condition → Bool) → some? p (conditionsIn left (drop at b)) ≡ (p (conditionAt b at) || some? p (conditionsIn (left - 1) (drop (behind b at) b)))
-  walk-first p = ap (λ (n : ℕ). some? p (conditionsIn n (drop at b))) one ∙ listed-first b at (left - 1) p
+  walk-first p = ap (λ (n : ℕ). some? p (conditionsIn n (drop at b))) one ∙ test-one b at (left - 1) p
 
   module _ (l : ConditionsFirst left (drop at b)) where
     all : ConditionsFirst (suc (left - 1)) (drop at b)
     all = subst (λ (n : ℕ). ConditionsFirst n (drop at b)) one l
 
     walk-form : isForm (getD b at 0) (getD b (at + 1) 0) ≡ true
-    walk-form = listed-form b at (left - 1) all
+    walk-form = form-one b at (left - 1) all
 
     pub walk-room : behind b at ≤ length b
-    walk-room = listed-room b at (left - 1) all
+    walk-room = room-one b at (left - 1) all
 
     walk-next : ConditionsFirst (left - 1) (drop (behind b at) b)
-    walk-next = first-next b at (left - 1) all
+    walk-next = next-one b at (left - 1) all
 
     -- the text is lent as a part of the bytes, k long
     module _ (k : ℕ) (e : k ≡ getD b (at + 1) 0) where

@@ -2,7 +2,6 @@
 use mathlib.Core.Path.{_≡_, refl, sym, ap, ap₂, _∙_, subst}
 use mathlib.Core.Bool.{Bool, true, false, not, cond, _||_}
 use mathlib.Core.List.{List, [], _∷_, _++_, map}
-use mathlib.Core.Logic.{_↔_}
 use Prim.Native.Nat.{ℕ, zero, suc, _+_, _*_, _^_, _≤_, _<_}
 use native.Mathlib.Omega.{arith}
 use lib.Count.{ones}
@@ -35,28 +34,6 @@ module _ (cs : List Condition) (xs : List Rule.Account) (set : ℕ) (e : set ≡
       subst (λ (bs : List ℕ). Written l 0 bs out j) (ap₂ (λ (n : ℕ) (ys : List Rule.Account). (n ∷ []) ++ foundBlocks s xs ys) found-size found-those) w
 
 -- ---- 21
-
-none-set : (p : Rule.Account → Bool) (xs : List Rule.Account) → setOf (map p xs) ≡ 0 → those p xs ≡ []
-unfolding setOf those
-none-set p [] h = refl
-none-set p (x ∷ xs) h = go (p x) h (none-set p xs)
-  where
-    go : (b : Bool) → setOf (map p xs) * 2 + cond b 1 0 ≡ 0 → (setOf (map p xs) ≡ 0 → those p xs ≡ []) → cond b (x ∷ those p xs) (those p xs) ≡ []
-    go true h i = absurd (omega arith)
-    go false h i = i (omega arith)
-
-none-those : (p : Rule.Account → Bool) (xs : List Rule.Account) → length (those p xs) ≡ 0 → setOf (map p xs) ≡ 0
-unfolding setOf those
-none-those p [] h = refl
-none-those p (x ∷ xs) h = go (p x) h (none-those p xs)
-  where
-    go : (b : Bool) → length (cond b (x ∷ those p xs) (those p xs)) ≡ 0 → (length (those p xs) ≡ 0 → setOf (map p xs) ≡ 0) → setOf (map p xs) * 2 + cond b 1 0 ≡ 0
-    go true h i = absurd (omega arith)
-    go false h i = omega (arith, i h)
-
-pub found-none : (cs : List Condition) (xs : List Rule.Account) → (setOf (map (selects cs) xs) ≡ 0) ↔ (selected cs xs ≡ [])
-unfolding selected
-found-none cs xs = (none-set (selects cs) xs, λ e. none-those (selects cs) xs (ap length e))
 
 -- some account is selected exactly where the set is not empty
 pub found-some : (p : Rule.Account → Bool) (xs : List Rule.Account) → not (eqb (setOf (map p xs)) 0) ≡ some? p xs

@@ -38,7 +38,6 @@ id-names c h =
 pub record Formed (mode n : ℕ) : Type 0 where
   pub least : 1 ≤ mode
   pub most : mode ≤ 3
-  pub some-text : 1 ≤ n
   pub short : n ≤ 10
   pub whole : mode ≡ 1 → n ≡ 10
 
@@ -51,7 +50,6 @@ formed mode n h =
     let k = both (leb 1 n) (leb n 10) (r .0) in record {
       least = leb-true 1 mode (m .0);
       most = leb-true mode 3 (m .1);
-      some-text = leb-true 1 n (k .0);
       short = leb-true n 10 (k .1);
       whole = λ e. eqb-true n 10 (rw (eq-eqb mode 1 e) at (r .1));
     }

@@ -100,10 +100,6 @@ module _ {A : Type 0} where
 
 -- ---- the set of flags
 
-bit-half : (n : ℕ) (b : Bool) → (n * 2 + cond b 1 0) / 2 ≡ n
-bit-half n true = omega arith
-bit-half n false = omega arith
-
 pub set-below : (bs : List Bool) → setOf bs < 2 ^ length bs
 unfolding setOf
 set-below [] = omega arith
