@@ -1,5 +1,5 @@
 -- What a change that is judged has to show, and its items set one after the other. Assumes nothing.
-use mathlib.Core.Path.{_≡_, refl, sym, ap, _∙_, subst}
+use mathlib.Core.Path.{_≡_, refl, sym, ap, ap₂, _∙_, subst}
 use mathlib.Core.Bool.{_&&_}
 use mathlib.Core.List.{List, [], _∷_, map}
 use Prim.Native.Nat.{ℕ, zero, suc, _+_, _^_, _≤_, _<_}
@@ -23,7 +23,7 @@ use Rattle.table.specs.View.{accountsOf, placeOf}
 use Rattle.table.proofs.Found.{place-is, known-in}
 use Rattle.table.proofs.Stored.{Stored, stored-none}
 use Rattle.ledger.specs.View.{viewOf, lent}
-use Rattle.ledger.specs.Promise.{Sound, Settled, Played}
+use Rattle.ledger.specs.Promise.{Sound, Settled}
 use Rattle.ledger.proofs.Laws.{good-table, settled-no, played-silent}
 use Rattle.message_item_checks.specs.Items.{limits}
 use Rattle.message_items.specs.declared.Item as Listed
@@ -31,7 +31,14 @@ use Rattle.message_items.specs.Records.{recordOf}
 use Rattle.message_limits.proofs.Sets.{one-changed, stored-holds}
 use Rattle.message_checks.proofs.Calls.{taken}
 use Rattle.call_change.specs.declared.Plan.{Plan}
-use Rattle.call_change.specs.Plan.{Judged, SetTo, Planned}
+use Rattle.call_change.specs.Plan.{Judged, SetTo, PlanSet, Planned}
+
+-- a table with the parts of another is that table
+same-table : (u t : Table) → u .codes ≡ t .codes → u .accounts ≡ t .accounts → u .count ≡ t .count → u .day ≡ t .day → u ≡ t
+same-table u t ec ea en ed =
+    ap (λ (c : List ℕ). record { codes = c; accounts = u .accounts; count = u .count; day = u .day }) ec
+    ∙ ap (λ (a : List Account). record { codes = t .codes; accounts = a; count = u .count; day = u .day }) ea
+    ∙ ap₂ (λ (n d : ℕ). record { codes = t .codes; accounts = t .accounts; count = n; day = d }) en ed
 
 -- ---- judged
 
@@ -66,42 +73,45 @@ module _ (t : Table) (g : Good t) (long : length (t .accounts) ≡ 64) (h : Head
 
 module _ (h : Program.Header) (id : List ℕ) (is : List Item) (n : ℕ) (t : Table) (ids days : List ℕ) (used : ℕ) (r : Plan) (ids′ days′ : List ℕ)
     (j : Judged h id is n t ids days used r ids′ days′) (g : Sound t ids days used) (long : length (t .accounts) ≡ 64) where
-  abbrev done : List Account → Table
-  done ys = record { codes = t .codes; accounts = ys; count = t .count; day = t .day }
+  by-answer : {P : Type 0} → (r .answer ≡ 0 → P) → (¬ (r .answer ≡ 0) → P) → P
+  by-answer {P} taken-so refused-so = go (r .answer) refl
+    where
+      go : (a : ℕ) → r .answer ≡ a → P
+      go zero e = taken-so e
+      go (suc a) e = refused-so (λ q. omega (arith, e, q))
+
+  abbrev Gives : Table → Type 0
+  Gives u = Settled (Change (toHeader h id) is) t ids days used (record { answer = r .answer; table = u; used = r .used }) ids′ days′
 
   owned : r .answer ≡ 0 → Owned t (good-table t ids days used g) long (toHeader h id) is
   unfolding answer checks limitChecks viewOf
   owned z = passed 20 (checks (viewOf t ids days used) 0 (Change (toHeader h id) is)) tt (sym (j .says) ∙ z)
 
-  -- accepted
-  settled : (z : r .answer ≡ 0) (ys : List Account) → SetTo (record { day = h .day; second = h .second }) (map (recordOf (take (t .count) (t .codes))) is) (t .accounts) ys
-      → Settled (Change (toHeader h id) is) t ids days used (record { answer = 0; table = done ys; used = used + 1 }) ids′ days′
+  accepted : (u : Table) → PlanSet r t u → r .answer ≡ 0 → Gives u
   unfolding toHeader effect viewOf
-  settled z ys w =
+  accepted u w z =
       let k = good-table t ids days used g in
       let p = j .passed z in
-      taken (Change (toHeader h id) is) (toHeader h id) t ids days used g (done ys) (setItems (toHeader h id) is (accountsOf t)) ids′ days′ (sym (j .says) ∙ z) (p .room)
-      (stored-holds t k long (done ys) (10 ^ 17) _ refl refl refl (stored-all t k long (toHeader h id) is (t .accounts) ys (10 ^ 17) (accountsOf t) (owned z) (stored-none t k long) w)) (p .added) refl
-
-  accepted : r .answer ≡ 0 → (ys : List Account) → SetTo (record { day = r .day; second = r .second }) (take (r .count) (r .items)) (t .accounts) ys → (report : List ℕ)
-      → Played (Change (toHeader h id) is ∷ []) t ids days used report (record { answer = r .answer; table = done ys; used = r .used; «report_len» = 0 }) ids′ days′ report
-  accepted z ys w report =
-      let p = j .passed z in
       let same : take (r .count) (r .items) ≡ map (recordOf (take (t .count) (t .codes))) is = ap (λ (k : ℕ). take k (r .items)) (p .count-is) ∙ p .listed in
-      let at-day = subst (λ (d : ℕ). SetTo (record { day = d; second = r .second }) (take (r .count) (r .items)) (t .accounts) ys) (j .day-is) w in
-      let at-second = subst (λ (d : ℕ). SetTo (record { day = h .day; second = d }) (take (r .count) (r .items)) (t .accounts) ys) (j .second-is) at-day in
-      let all = subst (λ (l : List Listed.Item). SetTo (record { day = h .day; second = h .second }) l (t .accounts) ys) same at-second in
+      let at-day = subst (λ (d : ℕ). SetTo (record { day = d; second = r .second }) (take (r .count) (r .items)) (t .accounts) (u .accounts)) (j .day-is) (w .set-to) in
+      let at-second = subst (λ (d : ℕ). SetTo (record { day = h .day; second = d }) (take (r .count) (r .items)) (t .accounts) (u .accounts)) (j .second-is) at-day in
+      let all = subst (λ (l : List Listed.Item). SetTo (record { day = h .day; second = h .second }) l (t .accounts) (u .accounts)) same at-second in
       rw (z, p .used-is)
-      (played-silent (Change (toHeader h id) is) t ids days used report (record { answer = 0; table = done ys; used = used + 1 }) ids′ days′ tt (settled z ys all))
+      (taken (Change (toHeader h id) is) (toHeader h id) t ids days used g u (setItems (toHeader h id) is (accountsOf t)) ids′ days′ (sym (j .says) ∙ z) (p .room)
+      (stored-holds t k long u (10 ^ 17) _ (w .codes-same) (w .count-same) (w .day-same) (stored-all t k long (toHeader h id) is (t .accounts) (u .accounts) (10 ^ 17) (accountsOf t) (owned z) (stored-none t k long) all)) (p .added) refl)
 
-  declined : ¬ (r .answer ≡ 0) → (ys : List Account) → SetTo (record { day = r .day; second = r .second }) (take (r .count) (r .items)) (t .accounts) ys → (report : List ℕ)
-      → Played (Change (toHeader h id) is ∷ []) t ids days used report (record { answer = r .answer; table = done ys; used = r .used; «report_len» = 0 }) ids′ days′ report
-  declined z ys w report =
+  declined : (u : Table) → PlanSet r t u → ¬ (r .answer ≡ 0) → Gives u
+  declined u w z =
       let q = j .refused z in
-      let none = subst (λ (k : ℕ). SetTo (record { day = r .day; second = r .second }) (take k (r .items)) (t .accounts) ys) (q .3) w in
-      rw (none, q .0, q .1, q .2)
-      (played-silent (Change (toHeader h id) is) t ids days used report (record { answer = r .answer; table = t; used = used }) ids days tt
-      (settled-no (Change (toHeader h id) is) t ids days used g (r .answer) (j .says) z))
+      let none = subst (λ (k : ℕ). SetTo (record { day = r .day; second = r .second }) (take k (r .items)) (t .accounts) (u .accounts)) (q .3) (w .set-to) in
+      let same : u ≡ t = same-table u t (w .codes-same) none (w .count-same) (w .day-same) in
+      rw (same, q .0, q .1, q .2) (settled-no (Change (toHeader h id) is) t ids days used g (r .answer) (j .says) z)
+
+  pub settled : (u : Table) → PlanSet r t u → Gives u
+  settled u w = by-answer (accepted u w) (declined u w)
+
+  pub few : r .count ≤ 16
+  few = by-answer (λ z. omega (arith, j .passed z .few, j .passed z .count-is)) (λ z. omega (arith, j .refused z .3))
 
   inside : length is ≡ n → r .answer ≡ 0 → r .count ≤ length (r .items)
   inside size z =
@@ -109,8 +119,8 @@ module _ (h : Program.Header) (id : List ℕ) (is : List Item) (n : ℕ) (t : Ta
       omega (arith, p .count-is, size, simp length-take at (ap length (p .listed)), length-map is (recordOf (take (t .count) (t .codes))))
 
   pub planned : length is ≡ n → Planned (Change (toHeader h id) is ∷ []) t ids days used r ids′ days′
-  planned size = go (r .answer) refl
-    where
-      go : (a : ℕ) → r .answer ≡ a → Planned (Change (toHeader h id) is ∷ []) t ids days used r ids′ days′
-      go zero e = record { few = omega (arith, j .passed e .few, j .passed e .count-is); inside = inside size e; played = accepted e }
-      go (suc a) e = let z : ¬ (r .answer ≡ 0) = λ q. omega (arith, e, q) in record { few = omega (arith, j .refused z .3); inside = omega (arith, j .refused z .3); played = declined z }
+  planned size = record {
+    few = few;
+    inside = by-answer (inside size) (λ z. omega (arith, j .refused z .3));
+    played = λ u w report. played-silent (Change (toHeader h id) is) t ids days used report _ ids′ days′ tt (settled u w);
+  }

@@ -3,21 +3,20 @@ use mathlib.Core.Path.{_≡_}
 use mathlib.Core.List.{List, [], _∷_, map}
 use Prim.Native.Nat.{ℕ, _+_, _≤_, _<_}
 use lib.ListN.{length, take, getD, set}
-use Rattle.rules.specs.Account.{Moment, Value, withMoment}
+use Rattle.rules.specs.Account.{Moment}
 use Rattle.rules.specs.Command as Rule
 use Rattle.rules.specs.Machine.{answer}
-use Rattle.rules.specs.Message.{withLimit}
 use Rattle.book.specs.Entries.{Added}
 use Rattle.command.specs.declared.Header.{Header}
 use Rattle.command.specs.View.{toHeader}
 use Rattle.account.specs.declared.Account.{Account}
-use Rattle.account.specs.View.{toAccount}
 use Rattle.table.specs.declared.Table.{Table}
 use Rattle.table.specs.Promise.{Slot}
 use Rattle.ledger.specs.View.{viewOf, lent}
 use Rattle.ledger.specs.Promise.{Played}
 use Rattle.message_items.specs.declared.Item.{Item}
 use Rattle.message_items.specs.Records.{recordOf}
+use Rattle.message_limits.specs.Touched.{Touched}
 use Rattle.call_change.specs.declared.Plan.{Plan}
 
 -- ---- what is judged
@@ -41,10 +40,6 @@ pub record Judged (h : Header) (id : List ℕ) (is : List Rule.Item) (n : ℕ) (
 
 -- ---- what is set
 
--- an account with an item's limit, and the moment
-abbrev pub Touched : Moment → Item → Account → Account → Type 0
-Touched m i x y = toAccount y ≡ withMoment m (withLimit (i .kind) (λ l. Value (i .value)) (toAccount x))
-
 -- the account at an item's place is stored anew
 pub record OneSet (m : Moment) (i : Item) (xs zs : List Account) : Type 0 where
   pub place : ℕ
@@ -59,11 +54,16 @@ abbrev pub SetTo : Moment → List Item → List Account → List Account → Ty
 SetTo m [] xs ys = ys ≡ xs
 SetTo m (i ∷ is) xs ys = (zs : List Account) × (OneSet m i xs zs) × (SetTo m is zs ys)
 
--- whoever sets a plan's items on the table's accounts has played the commands
+-- the table u is t with a plan's items set
+pub record PlanSet (p : Plan) (t u : Table) : Type 0 where
+  pub codes-same : u .codes ≡ t .codes
+  pub count-same : u .count ≡ t .count
+  pub day-same : u .day ≡ t .day
+  pub set-to : SetTo (record { day = p .day; second = p .second }) (take (p .count) (p .items)) (t .accounts) (u .accounts)
+
+-- whoever sets a plan's items on the table has played the commands
 pub record Planned (cs : List Rule.Command) (t : Table) (ids days : List ℕ) (used : ℕ) (r : Plan) (ids′ days′ : List ℕ) : Type 0 where
   pub few : r .count ≤ 16
   pub inside : r .count ≤ length (r .items)
-  pub played : (ys : List Account) → SetTo (record { day = r .day; second = r .second }) (take (r .count) (r .items)) (t .accounts) ys → (report : List ℕ)
-      → Played cs t ids days used report
-      (record { answer = r .answer; table = record { codes = t .codes; accounts = ys; count = t .count; day = t .day }; used = r .used; «report_len» = 0 })
-      ids′ days′ report
+  pub played : (u : Table) → PlanSet r t u → (report : List ℕ)
+      → Played cs t ids days used report (record { answer = r .answer; table = u; used = r .used; «report_len» = 0 }) ids′ days′ report

@@ -1,14 +1,12 @@
 // Kind 07 as a whole call: the number of the first check that fails with the very same table and book, or 0 with the limits set and the message's id in the
-// book. And in two parts: the checks, which take the table and do not give it back, and the items set one by one, for who owns the table.
+// book. It is made of two parts: the checks, which take the table and do not give it back, and the items set one by one, which whoever owns a table may do itself.
 ghost use mathlib.Core.Path.{_≡_};
+ghost use Prim.Native.Nat.{_≤_};
 ghost use Rattle.rules.specs.Command.{Change};
 ghost use Rattle.command.specs.View.{toHeader, itemsFrom};
 ghost use Rattle.table.specs.Promise.{Slot};
 ghost use Rattle.ledger.specs.Promise.{Sound, Settled};
-ghost use Rattle.call_change.specs.Plan.{Judged, Touched};
-use account::Account;
-use account::Limit;
-use account::touched;
+ghost use Rattle.call_change.specs.Plan.{Judged, PlanSet};
 use book::add_id;
 use command::Header;
 use command::is_header;
@@ -19,7 +17,7 @@ use message_checks::named_checks;
 use message_item_checks::test_items;
 use message_items::Item;
 use message_items::records;
-use message_limits::set_items;
+use message_limits::set_item;
 use rules::is_count;
 use table::Table;
 use table::slot;
@@ -99,12 +97,21 @@ pub fn item_slot(item: Item) -> usize
     slot(item.place as usize)
 }
 
-// An account with an item's limit set, and the message's moment put on it.
-pub fn set_item(x: Account, item: Item, day: u32, second: u32) -> Account
-    ensures { λ r. ⌜ Touched (record { day = day; second = second }) item x r ⌝ }
+// The items of a plan, set in order.
+fn set_plan(mut t: Table, plan: Plan) -> Table
+    requires { ⌜ plan .count ≤ 16 ⌝ }
+    ensures { λ r. ⌜ PlanSet plan t r ⌝ }
 {
-    let limit = Limit::Value(item.value);
-    touched(x, item.kind, limit, day, second)
+    let items = plan.items;
+    let count = plan.count;
+    let mut k: usize = 0;
+    while k < count {
+        let item = items[k];
+        let j = item_slot(item);
+        t.accounts[j] = set_item(t.accounts[j], item, plan.day, plan.second);
+        k += 1;
+    }
+    t
 }
 
 // The whole call.
@@ -123,18 +130,11 @@ pub fn change(
     requires { ⌜ Sound t (now ids) (now days) used ⌝ }
     ensures { λ r. ⌜ Settled (Change (toHeader header id) (itemsFrom 0 n accounts types values)) t (now (ids .entry)) (now (days .entry)) used r (now (ids .exit)) (now (days .exit)) ⌝ }
 {
-    let p = judge(t, ids, days, used, header, id, accounts, types, values, n);
-    if p.answer != 0 {
-        return Noted {
-            answer: p.answer,
-            table: t,
-            used: used,
-        };
-    }
-    let u = set_items(t, accounts, types, values, n, header);
+    let plan = judge(t, ids, days, used, header, id, accounts, types, values, n);
+    let u = set_plan(t, plan);
     Noted {
-        answer: 0,
+        answer: plan.answer,
         table: u,
-        used: p.used,
+        used: plan.used,
     }
 }

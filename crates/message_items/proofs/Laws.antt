@@ -1,7 +1,7 @@
 -- What one item more makes of the flags. Assumes nothing.
 use mathlib.Core.Path.{_≡_, refl, sym, _∙_, ap, ap₂}
 use mathlib.Core.Bool.{Bool, true, false, not, cond, _&&_, _||_, and-true}
-use mathlib.Core.List.{List, [], _∷_, _++_, map}
+use mathlib.Core.List.{List, [], _∷_, _++_, map, map-append}
 use Prim.Native.Nat.{ℕ, zero, suc, _+_, _*_, _<_, _≤_}
 use native.Mathlib.Numerals.{add-one}
 use native.Mathlib.Omega.{arith}
@@ -17,7 +17,6 @@ use Rattle.command.specs.View.{itemsFrom}
 use Rattle.command.proofs.Forms.{items-next}
 use Rattle.table.specs.View.{placeOf}
 use Rattle.table.specs.Promise.{Slot}
-use Rattle.table.proofs.Places.{map-append}
 use Rattle.message_items.specs.declared.Item.{Item}
 use Rattle.message_items.specs.declared.Flags.{Flags}
 use Rattle.message_items.specs.Records.{recordOf, blank, recordAt, tested, reviewed}
@@ -89,5 +88,5 @@ module _ (codes accounts types : List ℕ) (values : List ℤ) where
       ap (λ n. take n (set is i x)) (add-one i)
       ∙ take-suc-set is i x (omega arith)
       ∙ ap₂ (λ (js : List Item) (j : Item). js ++ (j ∷ [])) w (rw (e, k, q))
-      ∙ sym (map-append (recordOf codes) (itemsFrom 0 i accounts types values) _)
+      ∙ sym (map-append (recordOf codes) (itemsFrom 0 i accounts types values) (_ ∷ []))
       ∙ ap (map (recordOf codes)) (sym (items-next accounts types values i))

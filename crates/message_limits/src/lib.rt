@@ -1,55 +1,27 @@
-// The limits that a change names, set on a table, and the limit that a deletion names, deleted of an account.
+// A limit of one account, set by an item of a change or deleted, and the message's moment put on the account.
 ghost use mathlib.Core.Path.{_≡_};
 ghost use mathlib.Core.List.{List};
-ghost use Prim.Native.Nat.{ℕ, _≤_};
+ghost use Prim.Native.Nat.{ℕ};
 ghost use Rattle.rules.specs.Message as Message;
-ghost use Rattle.command.specs.View.{toHeader, itemsFrom};
+ghost use Rattle.command.specs.View.{toHeader};
 ghost use Rattle.account.specs.View.{toAccount};
-ghost use Rattle.table.specs.View.{accountsOf};
-ghost use Rattle.table.specs.Promise.{Good, Holds};
+ghost use Rattle.message_limits.specs.Touched.{Touched};
 use account::Account;
 use account::Limit;
 use account::cleared;
 use account::touched;
 use command::Header;
-use message_fields::named;
-use table::Table;
-use table::place;
+use message_items::Item;
 
-// ---- a change
-
-// The n items of a change, in order; an id that names no account changes nothing.
-pub fn set_items(
-    t: Table,
-    accounts: [u8; 160],
-    types: [u8; 16],
-    values: [i64; 16],
-    n: usize,
-    header: Header,
-) -> Table
-    requires { ⌜ (Good t) × (n ≤ 16) ⌝ }
-    ensures { λ r. ⌜ ((id : List ℕ) → Holds t r (Message.setItems (toHeader header id) (itemsFrom 0 n accounts types values) (accountsOf t))) ⌝ }
+// With an item's limit set.
+pub fn set_item(x: Account, item: Item, day: u32, second: u32) -> Account
+    ensures { λ r. ⌜ Touched (record { day = day; second = second }) item x r ⌝ }
 {
-    let count = t.count;
-    let mut u = t;
-    let mut i: usize = 0;
-    while i < n {
-        let p = place(&u.codes, count, named(&accounts, i * 10));
-        let kind = types[i];
-        let value = values[i];
-        let limit = Limit::Value(value);
-        i += 1;
-        if p < count {
-            let y = touched(u.accounts[p], kind, limit, header.day, header.second);
-            u.accounts[p] = y;
-        }
-    }
-    u
+    let limit = Limit::Value(item.value);
+    touched(x, item.kind, limit, day, second)
 }
 
-// ---- a deletion
-
-// One limit of an account deleted, and the message's moment put on it.
+// With one limit deleted.
 pub fn deleted(x: Account, kind: u8, header: Header) -> Account
     ensures { λ r. ⌜ ((id : List ℕ) → toAccount r ≡ Message.touch (toHeader header id) kind Message.cleared (toAccount x)) ⌝ }
 {

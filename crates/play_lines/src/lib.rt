@@ -3,13 +3,13 @@
 ghost use Rattle.ledger.specs.Promise.{Sound};
 ghost use Rattle.play_lines.specs.Run.{RanIs};
 use call_change::item_slot;
-use call_change::set_item;
 use call_payment::decide;
 use frame::frame_length;
 use frame_reader::digit_values;
 use frame_reader::unpack;
 use lines::REPORT_ROOM;
 use lines::next_end;
+use message_limits::set_item;
 use payment_booking::bank_in;
 use payment_booking::bank_out;
 use payment_booking::own_in;

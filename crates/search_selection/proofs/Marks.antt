@@ -1,13 +1,13 @@
 -- The set of the selected among the first accounts, and one account more. Assumes nothing.
 use mathlib.Core.Path.{_≡_, refl, sym, ap, _∙_}
 use mathlib.Core.Bool.{Bool, true, false, cond}
-use mathlib.Core.List.{List, [], _∷_, _++_, map}
+use mathlib.Core.List.{List, [], _∷_, _++_, map, map-append}
 use Prim.Native.Nat.{ℕ, zero, suc, _+_, _*_, _^_, _≤_, _<_, _/_, _%_}
 use native.Mathlib.Omega.{arith}
 use native.Mathlib.Numerals.{add-one}
 use lib.Dec.{eqb}
 use lib.ListN.{length, take, getD, length-map}
-use lib.Seq.{take-suc, length-take-le}
+use lib.Seq.{take-suc, length-take-le, getD-take}
 use Rattle.rules.specs.Account as Rule
 use Rattle.rules.specs.Account.{codes}
 use Rattle.rules.specs.Command.{Condition, some?}
@@ -16,7 +16,7 @@ use Rattle.rules.specs.Search.{meets, selects, those}
 use Rattle.table.specs.declared.Table.{Table}
 use Rattle.table.specs.View.{accountsOf}
 use Rattle.table.specs.Promise.{Good}
-use Rattle.table.proofs.Places.{map-append, take-getD, accounts-length}
+use Rattle.table.proofs.Places.{accounts-length}
 use Rattle.search_set.specs.Sets.{setOf, chosen}
 use Rattle.search_set.proofs.Laws.{set-below, set-more, set-same}
 
@@ -28,7 +28,7 @@ module _ (p : Rule.Account → Bool) (xs : List Rule.Account) (i : ℕ) where
   marked-below h = rw (flags-length h) at (set-below (map p (take i xs)))
 
   one-more : (d : Rule.Account) → i < length xs → map p (take (i + 1) xs) ≡ map p (take i xs) ++ (p (getD xs i d) ∷ [])
-  one-more d h = rw (add-one i, take-suc xs i d h) (map-append p (take i xs) (getD xs i d))
+  one-more d h = rw (add-one i, take-suc xs i d h) (map-append p (take i xs) (getD xs i d ∷ []))
 
   pub marked-more : (d : Rule.Account) (r : Bool) → i < length xs → r ≡ p (getD xs i d)
       → setOf (map p (take (i + 1) xs)) ≡ cond r (setOf (map p (take i xs)) + 2 ^ i) (setOf (map p (take i xs)))
@@ -53,7 +53,7 @@ code-at (x ∷ xs) (suc i) d h = code-at xs i d (omega arith)
 
 pub table-code : (t : Table) → Good t → length (t .accounts) ≡ 64 → (i : ℕ) (d : Rule.Account) → i < t .count → getD (t .codes) i 0 ≡ (getD (accountsOf t) i d) .code
 table-code t g long i d h =
-    sym (take-getD (t .count) (t .codes) i 0 h)
+    sym (getD-take (t .count) (t .codes) i 0 h)
     ∙ ap (λ (l : List ℕ). getD l i 0) (g .same)
     ∙ code-at (accountsOf t) i d (omega (arith, accounts-length t (g .within) long))
 

@@ -1,7 +1,7 @@
 -- Every account's new day, one after the other, kind 0a. Assumes nothing.
 use mathlib.Core.Path.{_≡_, refl, sym, ap, ap₂, _∙_}
 use mathlib.Core.Bool.{cond}
-use mathlib.Core.List.{List, [], _∷_, _++_, map}
+use mathlib.Core.List.{List, [], _∷_, _++_, map, map-append}
 use Prim.Native.Nat.{ℕ, _+_, _<_, _^_}
 use native.Mathlib.Omega.{arith}
 use native.Mathlib.Numerals.{add-one}
@@ -24,7 +24,7 @@ use Rattle.table.specs.declared.Table.{Table}
 use Rattle.table.specs.View.{accountsOf, machineOf}
 use Rattle.table.specs.Promise.{Good, call, Called}
 use Rattle.table.proofs.Called.{every-sized, accepted}
-use Rattle.table.proofs.Places.{accounts-length, accounts-at, map-append}
+use Rattle.table.proofs.Places.{accounts-length, accounts-at}
 use Rattle.table.specs.Promise.{Holds}
 
 -- the first i accounts of t have had their new day in u, the others stand as they were
@@ -56,9 +56,9 @@ module _ (t : Table) (g : Good t) (l : length (t .accounts) ≡ 64) (u : Table) 
     done =
         ap (λ n. map toAccount (take n (set (u .accounts) i y))) (add-one i)
         ∙ ap (map toAccount) (take-suc-set (u .accounts) i y (omega (arith, r .long, g .within)))
-        ∙ map-append toAccount (take i (u .accounts)) y
+        ∙ map-append toAccount (take i (u .accounts)) (y ∷ [])
         ∙ ap₂ (λ xs x. xs ++ (x ∷ [])) (r .done) (e ∙ ap (λ x. newDay (toAccount x)) (renewed-next i d r) ∙ ap newDay (sym (accounts-at t (g .within) l i d blank h)))
-        ∙ sym (map-append newDay (take i (accountsOf t)) (getD (accountsOf t) i blank))
+        ∙ sym (map-append newDay (take i (accountsOf t)) (getD (accountsOf t) i blank ∷ []))
         ∙ sym (ap (map newDay) (take-suc (accountsOf t) i blank (omega (arith, accounts-length t (g .within) l))))
         ∙ sym (ap (λ n. map newDay (take n (accountsOf t))) (add-one i));
     left = drop-set-lt (i + 1) (u .accounts) i y (omega arith) ∙ sym (drop-drop 1 i (u .accounts)) ∙ ap (drop 1) (r .left) ∙ drop-drop 1 i (t .accounts);

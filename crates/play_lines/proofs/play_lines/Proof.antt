@@ -9,10 +9,11 @@ use lib.Seq.{length-take-le}
 use Rattle.table.proofs.Places.{length-mapped}
 use Rattle.call_payment.proofs.Parties.{all-sized}
 use Rattle.call_payment.proofs.Calls.{out-room, own-out-room, in-room, own-in-room}
+use Rattle.call_change.proofs.Setting.{set-none, set-one}
 use Rattle.play_message.specs.Kinds.{inquires, amendsOne}
 use Rattle.lines.proofs.Next.{next-is}
 use Rattle.play_lines.proofs.Laws.{small, same-report, begin, turn, all-chosen}
-use Rattle.play_lines.proofs.Turns.{frame-long, test-formed, kind-formed, set-none, set-one}
+use Rattle.play_lines.proofs.Turns.{frame-long, test-formed, kind-formed}
 use Rattle.play_lines.proofs.play_lines.Proof.Loop.{Inv-loop2, μ-loop2, Inv-loop, μ-loop, ahead, roomy, at, line, bytes, here, within, table, sound, good, long, front, sought, sides, accepted, last, last2, last3, last4, went}
 use Rattle.play_lines.proofs.play_lines.Statement.{statement}
 use Rattle.play_lines.proofs.play_lines.Tie as tie
@@ -185,7 +186,7 @@ plan-requires c κs = let b = c .before .before .before in let f = b .before .be
     let q = kind-formed (line f) _ _ (here f) 7 (b .if3 .taken) in (q .0, q .1, sound f)
 
 loop2-holds : tie.Need-loop2-holds Inv-loop2 μ-loop2 Inv-loop μ-loop
-loop2-holds c = let f = c .before .before .before .before .before .before .before in (omega arith, set-none _ _ (table f) (long f))
+loop2-holds c = let f = c .before .before .before .before .before .before .before in (omega arith, set-none _ (table f) (long f))
 
 mul-item : tie.Need-mul-item Inv-loop2 μ-loop2 Inv-loop μ-loop
 mul-item c = omega (arith, c .loop2-test .taken, c .before .before .before .plan .ensures .few)
@@ -223,7 +224,7 @@ loop2-again c =
     let r = l .before .before .plan in
     let h = c .before .before .before .before .loop2-test .taken in (
       omega (arith, h),
-      set-one _ (r .result .items) (r .result .count) _ (l .loop2 .t) (l .loop2 .k) (l .loop2 .inv .1) _ h (r .ensures .inside) (c .before .before .item-slot .result) (c .set-item .result) _ (c .before .before .item-slot .ensures) (c .set-item .ensures),
+      set-one (r .result) (r .ensures .inside) _ (l .loop2 .t) (l .loop2 .k) (l .loop2 .inv .1) _ h (c .before .before .item-slot .result) (c .set-item .result) _ (c .before .before .item-slot .ensures) (c .set-item .ensures),
     )
 
 array-read-if4 : tie.Need-array-read-if4 Inv-loop2 μ-loop2 Inv-loop μ-loop

@@ -15,13 +15,14 @@ use Rattle.payment_parties.specs.declared.Transfer.{Transfer}
 use Rattle.payment_parties.specs.declared.Found.{Found}
 use Rattle.call_payment.proofs.Parties.{Sought}
 use Rattle.call_payment.proofs.Calls.{Accepted, refused, taken, booked}
+use Rattle.call_change.proofs.Setting.{SetSoFar, set-all}
 use Rattle.ledger.specs.View.{viewOf}
 use Rattle.ledger.specs.Promise.{Sound}
 use Rattle.ledger.proofs.Laws.{good-table}
 use Rattle.lines.proofs.Next.{NextIs}
 use Rattle.play_lines.specs.Run.{Passed}
 use Rattle.play_lines.proofs.Laws.{forward, fits}
-use Rattle.play_lines.proofs.Turns.{Long, Turned, turned, paid, SetSoFar, changed}
+use Rattle.play_lines.proofs.Turns.{Long, Turned, turned, paid}
 use Rattle.play_lines.proofs.play_lines.Tie as tie
 use Rattle.lines.specs.Text.{answerRoom, reportRoom}
 
@@ -41,11 +42,11 @@ abbrev pub μ-loop : tie.MeasureT-loop
 -- the items of a change before k are set
 abbrev pub Inv-loop2 : tie.InvT-loop2
 Inv-loop2 ids days used lines out t₀ values frame report read written end m n answer long change items count k₀ t k =
-    (k ≤ count) × (SetSoFar (record { day = change .day; second = change .second }) (take count items) t₀ t k)
+    (k ≤ change .count) × (SetSoFar change t₀ t k)
 
 abbrev pub μ-loop2 : tie.MeasureT-loop2
 μ-loop2 ids days used lines out t₀ values frame report read written end m n answer long change items count k₀ t k =
-    count - k
+    change .count - k
 
 -- ---- in a turn: the line's end is at or behind its start, and there is room
 
@@ -146,7 +147,7 @@ went c =
     (⊎-elim
     (λ w.
     turned (line f) (v .t) (v .ids) (v .days) (v .used) (v .report)
-    (rw (here f .frame-is) at (changed _ (v .t) (v .ids) (v .days) (v .used) (w .5 .result) _ _ (w .5 .ensures) (w .7 .t) (w .7 .k) (w .7 .inv .1) (w .8 .left) (v .report)))
+    (rw (here f .frame-is) at (w .5 .ensures .played (w .7 .t) (set-all (w .5 .result) (w .5 .ensures .inside) (v .t) (w .7 .t) (w .7 .k) (w .7 .inv .1) (w .8 .left)) (v .report)))
     (record { codes-long = ap length (w .7 .inv .1 .codes-same) ∙ v .inv .5 .codes-long; accounts-long = w .7 .inv .1 .accounts-long }) _ _ _ _ _ _ _ (w .9) (w .10) (w .11) (w .12) (w .13) (w .14) (w .15))
     (⊎-elim
     (λ w. turned (line f) (v .t) (v .ids) (v .days) (v .used) (v .report) (rw (here f .frame-is) at (w .7 .ensures)) (v .inv .5) _ _ _ _ _ _ _ (w .9) (w .10) (w .11) (w .12) (w .13) (w .14) (w .15))

@@ -3,8 +3,8 @@ use mir.Syntax.{w64}
 use mir.Val.{SFits}
 use mir.Facts.{toZ-ofZ}
 use Rattle.account.specs.View.{toLimit}
-use Rattle.call_change.proofs.set_item.Statement.{statement}
-use Rattle.call_change.proofs.set_item.Tie as tie
+use Rattle.message_limits.proofs.set_item.Statement.{statement}
+use Rattle.message_limits.proofs.set_item.Tie as tie
 
 value-fits : (s : tie.Start) → SFits w64 (s .args .item .value)
 value-fits s = search needs
