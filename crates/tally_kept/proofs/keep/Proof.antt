@@ -5,7 +5,7 @@ use native.Mathlib.Omega.{arith}
 use borrow.Author.Needs.{needs}
 use lib.ListN.{length, length-set}
 use Rattle.octets.specs.Octets.{part, write}
-use Rattle.book.proofs.Laws.{move-more}
+use Rattle.octets.proofs.Places.{move-more}
 use Rattle.tally_kept.specs.Kept.{keptLength}
 use Rattle.tally_kept.proofs.Laws.{kept-most}
 use Rattle.tally_kept.proofs.keep.Statement.{statement}
