@@ -1,5 +1,5 @@
 // Kind 07 as a whole call: the number of the first check that fails with the very same table and book, or 0 with the limits set and the message's id in the
-// book. It is made of two parts: the checks, which take the table and do not give it back, and the items set one by one, which whoever owns a table may do itself.
+// book. It has two parts: the checks, which take the table and do not give it back, and the items set one by one, which whoever owns a table may do itself.
 ghost use mathlib.Core.Path.{_≡_};
 ghost use Prim.Native.Nat.{_≤_};
 ghost use Rattle.rules.specs.Command.{Change};
