@@ -13,7 +13,7 @@ use account::touched;
 use command::Header;
 use message_items::Item;
 
-// With an item's limit set.
+// The account with an item's limit set.
 pub fn set_item(x: Account, item: Item, day: u32, second: u32) -> Account
     ensures { λ r. ⌜ Touched (record { day = day; second = second }) item x r ⌝ }
 {
@@ -21,7 +21,7 @@ pub fn set_item(x: Account, item: Item, day: u32, second: u32) -> Account
     touched(x, item.kind, limit, day, second)
 }
 
-// With one limit deleted.
+// The account with one limit deleted.
 pub fn deleted(x: Account, kind: u8, header: Header) -> Account
     ensures { λ r. ⌜ ((id : List ℕ) → toAccount r ≡ Message.touch (toHeader header id) kind Message.cleared (toAccount x)) ⌝ }
 {
