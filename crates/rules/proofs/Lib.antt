@@ -9,6 +9,7 @@ pub mod Sound
 pub mod Payments
 pub mod Entries
 pub mod Bound
+pub mod Marks
 pub mod Keep
 pub mod Theorem
 pub mod Exactly

@@ -12,8 +12,8 @@ use lib.Signed.{nonNeg, _≤ℤ_}
 use Rattle.amount.specs.Amount.{difference, dayBalance, isLimit}
 use Rattle.amount.proofs.Integer.{difference-add, difference-self, difference-up, difference-down, ≤ℤ-out, nonNeg-in, nonNeg-up}
 use Rattle.octets.specs.Octets.{isBytes}
-use Rattle.rules.specs.Account.{Value, Turnovers, Account, balance, state, held, isNone, isBank, noTurnovers, withLimits, opened, codes, blank, at, adjust, total}
-use Rattle.rules.specs.Command.{Header, Command, Bank, Branch, Funding, Withdrawal, BankLimits, Payment, Change, Deletion, Query, Opening, Search, Call, every, some?, isCode, isMethod, isDay, isCount, isHeader, isItem, wellFormed}
+use Rattle.rules.specs.Account.{Value, Turnovers, Account, balance, state, held, isNone, isBank, noTurnovers, withLimits, withLetters, withMark, opened, codes, blank, at, adjust, total, sumOver}
+use Rattle.rules.specs.Command.{Header, Command, Bank, Branch, Funding, Withdrawal, BankLimits, Payment, Change, Deletion, Query, Opening, Search, Letters, Mark, Call, every, some?, isCode, isMethod, isLetters, isDay, isCount, isHeader, isItem, wellFormed}
 use Rattle.rules.specs.Demand.{broughtForward}
 use Rattle.rules.specs.History.{Event, Funds, Withdraws, Pays, Opens, Nothing, event, events, funds, withdraws, sumOf, paid, count, gets, gives, brought, taken, isOpening, dayOpened}
 use Rattle.rules.specs.Invariant.{All, Limited, Fit, Invariant}
@@ -26,9 +26,10 @@ use Rattle.rules.proofs.Branches.{Metered}
 use Rattle.rules.proofs.Checks.{passed, by-answer}
 use Rattle.rules.proofs.Entries.{book-joined}
 use Rattle.rules.proofs.Keep.{Kept, Still, still-refl, still-adjust, still-items, none-moved, kept-still, kept-join, kept-start, kept-pay, kept-newDay}
-use Rattle.rules.proofs.Ledger.{inflow, outflow, balance-is, payer-known, payee-known, quiet-limits, quiet-touch, held-opened}
+use Rattle.rules.proofs.Ledger.{inflow, outflow, balance-is, payer-known, payee-known, quiet-limits, quiet-letters, quiet-mark, quiet-touch, held-opened}
 use Rattle.rules.proofs.Lists.{all-imp, all-at, all-adjust}
-use Rattle.rules.proofs.Sound.{fit-opened, fit-limits, state-bank, stays, Timely, timely, branch-no-bank, cleared-ok, fit-touch, fit-items}
+use Rattle.rules.proofs.Marks.{marks-kept, touch-marked, marks-set}
+use Rattle.rules.proofs.Sound.{fit-opened, fit-limits, fit-letters, fit-mark, state-bank, stays, Timely, timely, branch-no-bank, cleared-ok, fit-touch, fit-items}
 use Rattle.rules.proofs.Unique.{found}
 
 -- an accepted message moves nothing, and its id joins the book
@@ -38,13 +39,13 @@ unfolding withId hasBookPlace
 kept-message m h ys v s f new ok room = kept-still m (withId h ys m) v refl s f (book-joined (m .day) (h .id) (m .ids) new ok room (v .book))
 
 pub keep : (m : Machine) (room : ℕ) (k : Command) → Invariant m → firstFailure (checks m room k) ≡ 0 → Kept m (effect m k) (event k)
-unfolding checks effect event wellFormed isMethod isDay withAccounts withId paymentChecks limitChecks every opened isNone funds withdraws paid
+unfolding checks effect event wellFormed isMethod isLetters isDay withLimits withLetters withAccounts withId paymentChecks limitChecks every opened isNone funds withdraws paid
 keep m room (Bank c) v e =
-    kept-join m (opened c none 0 0) v refl (held-opened c none 0 0)
+    kept-join m (opened c none 0 0) v refl refl (held-opened c none 0 0)
     (fit-opened (m .day) c none 0 0 (passed 1 _ tt e) (omega arith) (omega arith) (λ b. (refl, refl))) tt (passed 2 _ tt e) (passed 3 _ tt e)
 keep m room (Branch c o l p) v e =
     let w : T (isCode c && isCode o && leb l 3 && leb p 3) = passed 1 _ tt e in
-    kept-join m (opened c (some o) l p) v refl (held-opened c (some o) l p)
+    kept-join m (opened c (some o) l p) v refl refl (held-opened c (some o) l p)
     (fit-opened (m .day) c (some o) l p (search (and-l, and-r)) (leb→le l 3 (search (and-l, and-r))) (leb→le p 3 (search (and-l, and-r))) (λ b. absurd b))
     (passed 4 _ tt e, passed 5 _ tt e) (passed 2 _ tt e) (passed 3 _ tt e)
 keep m room (Funding c a) v e =
@@ -62,7 +63,7 @@ keep m room (BankLimits c l p) v e =
     let r : T (nonNeg l && isLimit l && isLimit p) = passed 6 _ tt e in
     let g : Limited ((at c xs) .owner) (Value l) (Value p) =
     record { ltk-ok = search (and-l, and-r); lpo-ok = search (and-l, and-r); bank-ltk = λ b. search (and-l, and-r); bank-lpo = λ b. tt } in
-    kept-still m (effect m (BankLimits c l p)) v refl (still-adjust c (quiet-limits (Value l) (Value p)) xs)
+    kept-still m (effect m (BankLimits c l p)) v refl (still-adjust c (quiet-limits (Value l) (Value p)) xs (marks-kept c (withLimits (Value l) (Value p)) (λ x. refl) xs))
     (all-adjust c (withLimits (Value l) (Value p)) (Fit (m .day)) xs
     (λ kn. fit-limits (m .day) (at c xs) (all-at c (Fit (m .day)) xs kn (v .fit)) (Value l) (Value p) g) (v .fit))
     (v .book)
@@ -81,7 +82,7 @@ keep m room (Deletion h i t) v e =
     let g : Timely (m .day) h = timely (m .day) h (search (and-l, and-r)) (passed 17 _ tt e) in
     let b : T (isBranchOf (h .sender) (named i) xs && true) = passed 20 _ tt e in
     let nb : T (not (isBank (at (named i) xs))) = branch-no-bank (h .sender) (named i) xs (and-l (isBranchOf (h .sender) (named i) xs) true b) in
-    kept-message m h (adjust (named i) (touch h t cleared) xs) v (still-adjust (named i) (quiet-touch h t cleared) xs)
+    kept-message m h (adjust (named i) (touch h t cleared) xs) v (still-adjust (named i) (quiet-touch h t cleared) xs (marks-kept (named i) (touch h t cleared) (touch-marked h t cleared) xs))
     (all-adjust (named i) (touch h t cleared) (Fit (m .day)) xs
     (λ kn. fit-touch (m .day) h g t cleared cleared-ok (at (named i) xs) nb (all-at (named i) (Fit (m .day)) xs kn (v .fit))) (v .fit))
     (passed 14 _ tt e) (passed 16 _ tt e) (passed 22 _ tt e)
@@ -92,6 +93,18 @@ keep m room (Search h cs) v e =
 keep m room (Opening d) v e =
     let l : m .day < d = ltb→lt (m .day) d (passed 13 _ tt e) in
     kept-newDay m d v (omega arith) (ltb→lt d (2 ^ 32) (passed 1 _ tt e))
+keep m room (Letters c l) v e =
+    let xs : List Account = m .accounts in
+    let w : T (isCode c && leb l 31) = passed 1 _ tt e in
+    kept-still m (effect m (Letters c l)) v refl (still-adjust c (quiet-letters l) xs (marks-kept c (withLetters l) (λ x. refl) xs))
+    (all-adjust c (withLetters l) (Fit (m .day)) xs
+    (λ kn. fit-letters (m .day) (at c xs) (all-at c (Fit (m .day)) xs kn (v .fit)) l (leb→le l 31 (and-r (isCode c) _ w))) (v .fit))
+    (v .book)
+keep m room (Mark c) v e =
+    let xs : List Account = m .accounts in
+    kept-still m (effect m (Mark c)) v refl (still-adjust c quiet-mark xs (λ k. marks-set c xs (passed 26 _ tt e)))
+    (all-adjust c withMark (Fit (m .day)) xs (λ kn. fit-mark (m .day) (at c xs) (all-at c (Fit (m .day)) xs kn (v .fit)) (passed 5 _ tt e)) (v .fit))
+    (v .book)
 
 -- a call, whatever its answer
 pub next-keeps : (m : Machine) (k : Call) → Invariant m → Kept m (next m k) (ifAccepted (answer m k) (event (k .command)) Nothing)
@@ -103,13 +116,14 @@ next-keeps m k v =
 -- ---- every list of calls
 
 pub start-inv : Invariant empty
-unfolding empty codes total
+unfolding empty codes total sumOver
 start-inv = record {
   fit = tt;
   table = record { distinct = tt; few = omega arith };
   owned = tt;
   earlier = tt;
   bounded = tt;
+  one-mark = omega arith;
   book = record { few = omega arith; fit = tt; in-order = tt };
   day-fits = omega arith;
 }

@@ -4,7 +4,7 @@ use mathlib.Core.List.{List, [], _∷_}
 use Prim.Native.Nat.{ℕ, _+_}
 use lib.IntN.{natAbs}
 use lib.Dec.{eqb}
-use Rattle.rules.specs.Command.{Command, Bank, Branch, Funding, Withdrawal, BankLimits, Payment, Change, Deletion, Query, Opening, Search, Call, some?}
+use Rattle.rules.specs.Command.{Command, Bank, Branch, Funding, Withdrawal, BankLimits, Payment, Change, Deletion, Query, Opening, Search, Letters, Mark, Call, some?}
 use Rattle.rules.specs.Payment.{isCredit, payer, payee}
 use Rattle.rules.specs.Machine.{Outcome, ifAccepted}
 
@@ -28,6 +28,8 @@ event (Deletion h i t) = Nothing
 event (Query h is) = Nothing
 event (Opening d) = Opens
 event (Search h cs) = Nothing
+event (Letters c l) = Nothing
+event (Mark c) = Nothing
 
 -- accepted means answered 0
 unfoldable pub events : List Call → List Outcome → List Event

@@ -8,6 +8,7 @@ use lib.Dec.{eqb}
 use Rattle.octets.specs.Octets.{money}
 use Rattle.rules.specs.Account.{Turnovers, Account, state}
 use Rattle.rules.specs.Command.{Condition, some?}
+use Rattle.rules.specs.Letters.{letterBytes}
 use Rattle.rules.specs.Message.{sameBytes, accountId, mayAsk}
 
 -- ---- texts
@@ -50,9 +51,9 @@ selected cs xs = those (selects cs) xs
 unfoldable pub turnoverBytes : Turnovers → List ℕ
 turnoverBytes t = money (pos (t .icdt)) ++ (money (pos (t .rcdt)) ++ (money (pos (t .iddt)) ++ money (pos (t .rddt))))
 
--- 51 bytes: 0, id, state and four turnovers
+-- 52 to 57 bytes: 0, id, state, four turnovers, and the letters on the account itself
 unfoldable pub shownBytes : Account → List ℕ
-shownBytes x = (0 ∷ []) ++ (accountId (x .code) ++ (money (state x) ++ turnoverBytes (x .turnovers)))
+shownBytes x = (0 ∷ []) ++ (accountId (x .code) ++ (money (state x) ++ (turnoverBytes (x .turnovers) ++ letterBytes (x .letters))))
 
 -- 24 alone where the sender may not ask for the account
 unfoldable pub foundBlock : ℕ → List Account → Account → List ℕ
