@@ -13,6 +13,7 @@ use Rattle.rules.specs.Account as Rule
 use Rattle.rules.specs.Account.{codes, known, at}
 use Rattle.rules.specs.Command.{Command, Payment}
 use Rattle.rules.specs.Invariant.{Sized}
+use Rattle.rules.specs.Letters.{lettersAllow}
 use Rattle.rules.specs.Machine.{checks, firstFailure, answer}
 use Rattle.rules.specs.Payment.{isCredit, payer, payee, bankOr, bankOf, sideHasRoom, paymentChecks}
 use Rattle.rules.proofs.Bools.{and-l, and-r}
@@ -28,6 +29,7 @@ use Rattle.table.specs.Promise.{Good, call, Slot}
 use Rattle.table.specs.View.{accountsOf, machineOf, placeOf}
 use Rattle.table.proofs.Called.{sized-at}
 use Rattle.table.proofs.Found.{place-is, place-known, known-in, account-at}
+use Rattle.payment_letters.specs.Sides.{sidesPass}
 use Rattle.payment_checks.specs.Checks.{earlyChecks, partyChecks}
 use Rattle.payment_parties.specs.declared.Transfer.{Transfer}
 use Rattle.payment_parties.specs.declared.Found.{Found}
@@ -53,6 +55,8 @@ outside = record {
   ltk = Value (pos 0);
   lpo = Value (pos 0);
   moment = Never;
+  letters = 0;
+  marked = false;
 }
 
 -- the parties of a payment were looked for in the table, and their banks, which are at k and l
@@ -75,6 +79,14 @@ both-known : (credit : Bool) (s r : ℕ) (xs : List Rule.Account) → (known (pa
 unfolding payer payee
 both-known true s r xs = refl
 both-known false s r xs = and-comm (known r xs) (known s xs)
+
+-- the letters of the parties, by who pays and by who sends
+sides-allow : (credit : Bool) (s r : ℕ) (xs : List Rule.Account)
+    → sidesPass credit (at (payer credit s r) xs) (at (bankOf (payer credit s r) xs) xs) (at (payee credit s r) xs) (at (bankOf (payee credit s r) xs) xs)
+    ≡ lettersAllow credit s r xs
+unfolding payer payee sidesPass lettersAllow
+sides-allow true s r xs = refl
+sides-allow false s r xs = refl
 
 bank-found : (o : Option ℕ) (c i : ℕ) (cs : List ℕ) → i ≡ placeOf c cs → bankPlace o i cs ≡ placeOf (bankOr o c) cs
 unfolding bankPlace bankOr
@@ -169,7 +181,7 @@ module _ (t : Table) (g : Good t) (long : length (t .accounts) ≡ 64) where
 
       others : firstFailure (take 4 tests) ≡ 0 → firstFailure (drop 4 tests) ≡ firstFailure (drop 4 (checks (machineOf t) 0 (asPayment p)))
       unfolding earlyChecks partyChecks checks paymentChecks sideHasRoom machineOf
-      others z = let h = known-both z in rw (own-at (payer-party h) outside, bank-at (payer-party h) outside, own-at (payee-party h) outside, bank-at (payee-party h) outside)
+      others z = let h = known-both z in rw (own-at (payer-party h) outside, bank-at (payer-party h) outside, own-at (payee-party h) outside, bank-at (payee-party h) outside, sides-allow (isCredit (p .way)) (p .sender) (p .receiver) (accountsOf t))
 
       pub answered : e ≡ answer (machineOf t) (call (asPayment p))
       unfolding answer call earlyChecks checks

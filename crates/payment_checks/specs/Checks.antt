@@ -8,6 +8,7 @@ use Rattle.amount.specs.Amount.{isAmount}
 use Rattle.rules.specs.Account.{Account, state, isBank}
 use Rattle.rules.specs.Command.{Payment, wellFormed}
 use Rattle.rules.specs.Payment.{ltkAllows, lpoAllows, outTurnover, inTurnover, hasRoom}
+use Rattle.payment_letters.specs.Sides.{sidesPass}
 
 -- the first four checks; the flag says whether both parties are known
 unfoldable pub earlyChecks : ℕ → ℕ → ℕ → ℤ → Bool → List (ℕ × Bool)
@@ -16,7 +17,8 @@ earlyChecks w s r a known = (1, wellFormed (Payment w s r a)) ∷ (4, known) ∷
 -- the other checks, of the payer x with its bank b and the payee y with its bank d
 unfoldable pub partyChecks : Bool → ℕ → Account → Account → Account → Account → List (ℕ × Bool)
 partyChecks credit n x b y d =
-    (9, ltkAllows (b .ltk) (state b -ℤ pos n))
+    (25, sidesPass credit x b y d)
+    ∷ (9, ltkAllows (b .ltk) (state b -ℤ pos n))
     ∷ (10, not credit || lpoAllows (b .lpo) (b .turnovers .icdt + n))
     ∷ (11, isBank x || ltkAllows (x .ltk) (state x -ℤ pos n))
     ∷ (12, not credit || (isBank x || lpoAllows (x .lpo) (x .turnovers .icdt + n)))

@@ -15,6 +15,7 @@ use account_state::covers;
 use account_state::has_room;
 use account_state::under_cap;
 use amount::is_amount;
+use payment_letters::sides_pass;
 use rules::first;
 use rules::is_code;
 
@@ -44,6 +45,7 @@ pub fn late(credit: bool, n: u64, x: Account, b: Account, y: Account, d: Account
     requires { ⌜ (Sized (toAccount x)) × (Sized (toAccount b)) × (Sized (toAccount y)) × (Sized (toAccount d)) × (n ≤ 10 ^ 15) ⌝ }
     ensures { λ r. ⌜ r ≡ firstFailure (partyChecks credit n (toAccount x) (toAccount b) (toAccount y) (toAccount d)) ⌝ }
 {
+    let c25 = sides_pass(credit, x, b, y, d);
     let bank = is_bank(x);
     let c9 = covers(b, n);
     let c10 = !credit | under_cap(b, n);
@@ -52,12 +54,16 @@ pub fn late(credit: bool, n: u64, x: Account, b: Account, y: Account, d: Account
     let out = side_room(x, b, out_turnover(credit), n);
     let into = side_room(y, d, in_turnover(credit), n);
     first(
-        c9,
-        9,
+        c25,
+        25,
         first(
-            c10,
-            10,
-            first(c11, 11, first(c12, 12, first(out & into, 8, 0))),
+            c9,
+            9,
+            first(
+                c10,
+                10,
+                first(c11, 11, first(c12, 12, first(out & into, 8, 0))),
+            ),
         ),
     )
 }
