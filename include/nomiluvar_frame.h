@@ -30,9 +30,9 @@ extern "C" {
  *
  * Otherwise 0 is returned, which stands for refusal 1, and the whole buffer is left as it was. So it is with an empty
  * line, an odd number of digits, a byte that is not one of 0 to 9 and a to f, an unknown kind, a length that is not the
- * kind's, a code that is not six digits, a method over 3, a second over 86,399, a payment byte over 1, a count that is
- * not 1 to 16, or in a search not 1 to 8, a search's mode that is not 1 to 3, a text's length that is not 1 to 10, or with
- * mode 1 not 10, and a buffer of fewer than NOMILUVAR_FRAME_ROOM bytes, 0 included.
+ * kind's, a code that is not six digits, a method over 3, a second over 86,399, a payment byte over 1, a byte of blocking
+ * letters over 31, a count that is not 1 to 16, or in a search not 1 to 8, a search's mode that is not 1 to 3, a text's
+ * length that is not 1 to 10, or with mode 1 not 10, and a buffer of fewer than NOMILUVAR_FRAME_ROOM bytes, 0 included.
  *
  * The caller sees to it that both buffers are valid, of the lengths given, and do not overlap. A buffer of length 0 is
  * neither read nor written, so its pointer may be NULL. Nothing is kept between calls: calls on different buffers may run

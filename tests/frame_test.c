@@ -70,6 +70,13 @@ static const struct named good[] = {
     {"0b search of 7", "0b" HEAD "07" EQUAL TWICE(TWICE(LACKS)) TWICE(CONTAINS)},
     {"0b search of 8", "0b" HEAD "08" EIGHT(CONTAINS)},
     {"0b search of 8, the longest", "0b" HEAD "08" EIGHT(EQUAL)},
+    {"0c no letters", "0c" CODE "00"},
+    {"0c letter A", "0c" CODE "01"},
+    {"0c letters B, N and S", "0c" CODE "0e"},
+    {"0c letter R", "0c" OWNER "10"},
+    {"0c all five letters", "0c" OWNER "1f"},
+    {"13 mark", "13" CODE},
+    {"13 mark of 012349", "13" OWNER},
 };
 
 static const struct named refused[] = {
@@ -91,10 +98,16 @@ static const struct named refused[] = {
     {"0x before the digits", "0x01" CODE},
     {"kind 00", "00" CODE},
     {"kind 00 alone", "00"},
-    {"kind 0c as an opening", "0c" DAY},
-    {"kind 0c as a bank", "0c" CODE},
-    {"kind 0c as a search", "0c" HEAD "01" CONTAINS},
+    {"kind 0d as an opening", "0d" DAY},
+    {"kind 0d as a bank", "0d" CODE},
+    {"kind 0d as letters", "0d" CODE "00"},
+    {"kind 0d as a search", "0d" HEAD "01" CONTAINS},
     {"kind 10", "10" DAY},
+    {"kind 12 as a mark", "12" CODE},
+    {"kind 12 as letters", "12" CODE "00"},
+    {"kind 14 as a mark", "14" CODE},
+    {"kind 14 as letters", "14" CODE "00"},
+    {"kind 19, the decimal of 13, as a mark", "19" CODE},
     {"kind 1a", "1a" DAY},
     {"kind ff", "ff" CODE},
     {"01 a byte short", "013838383838"},
@@ -162,6 +175,35 @@ static const struct named refused[] = {
     {"0b a byte of text short", "0b" HEAD "01" "02033838"},
     {"0b a byte long", "0b" HEAD "01" CONTAINS "38"},
     {"0b the second text short", "0b" HEAD "02" EQUAL "02033838"},
+    {"0c as an opening", "0c" DAY},
+    {"0c as a search", "0c" HEAD "01" CONTAINS},
+    {"0c alone", "0c"},
+    {"0c without letters", "0c" CODE},
+    {"0c half a byte of letters", "0c" CODE "1"},
+    {"0c a byte long", "0c" CODE "1f00"},
+    {"0c a digit of the code short", "0c3838383838" "01"},
+    {"0c bit 5", "0c" CODE "20"},
+    {"0c bit 6", "0c" CODE "40"},
+    {"0c bit 7", "0c" CODE "80"},
+    {"0c bit 5 beside all five letters", "0c" CODE "3f"},
+    {"0c bit 6 beside all five letters", "0c" CODE "5f"},
+    {"0c bit 7 beside all five letters", "0c" CODE "9f"},
+    {"0c letters ff", "0c" CODE "ff"},
+    {"0c letters as the letter A in ASCII", "0c" CODE "41"},
+    {"0c code with a letter", "0c" "383838383861" "01"},
+    {"0c code with a slash", "0c" "2f3838383838" "01"},
+    {"0c code with a colon", "0c" "3838383a3838" "01"},
+    {"0c upper-case kind", "0C" CODE "01"},
+    {"0c upper-case digit of the letters", "0c" CODE "1F"},
+    {"13 as an opening", "13" DAY},
+    {"13 alone", "13"},
+    {"13 a byte short", "133838383838"},
+    {"13 half a byte short", "1338383838383"},
+    {"13 a byte long", "13" CODE "00"},
+    {"13 code with a letter", "13" "383838383861"},
+    {"13 code with a slash", "13" "2f3838383838"},
+    {"13 code with a colon", "13" "3838383a3838"},
+    {"13 upper-case digit in the code", "13" "3838383A3838"},
     {"352 bytes that are no frame", SIXTEEN(SIXTEEN("01")) SIXTEEN(TWICE(TWICE("01"))) SIXTEEN(TWICE("01"))},
 };
 
@@ -176,9 +218,12 @@ static int digit_value(int c)
     return at ? (int)(at - digits) : -1;
 }
 
-/* Behind the kind. C: code. M: amount. D: 4 bytes. H: header. A: account id and type. 1, 3: a byte up to this. i, q: a count, and rows of 19 or 10 bytes.
- * s: a count, and conditions. */
-static const char *const layouts[] = {NULL, "C", "CC33", "CM", "CM", "CMM", "1CCM", "Hi", "HA", "Hq", "D", "Hs"};
+/* By kind, what stands behind it; a kind without one is unknown. C: code. M: amount. D: 4 bytes. H: header. A: account id and type. 1, 3: a byte up to this.
+ * L: letters, a byte up to 31. i, q: a count, and rows of 19 or 10 bytes. s: a count, and conditions. */
+static const char *const layouts[256] = {
+    [0x01] = "C", [0x02] = "CC33", [0x03] = "CM", [0x04] = "CM", [0x05] = "CMM", [0x06] = "1CCM", [0x07] = "Hi",
+    [0x08] = "HA", [0x09] = "Hq", [0x0a] = "D", [0x0b] = "Hs", [0x0c] = "CL", [0x13] = "C",
+};
 
 /* The number of bytes of a count and so many conditions: mode, length, text. */
 static int conditions_bytes(const uint8_t *b)
@@ -213,6 +258,7 @@ static int field_bytes(char field, const uint8_t *b)
         return field_bytes('C', b) < 0 ? -1 : 46;
     case '1':
     case '3': return *b > field - '0' ? -1 : 1;
+    case 'L': return *b > 31 ? -1 : 1;
     case 's': return conditions_bytes(b);
     default: return *b < 1 || *b > 16 ? -1 : 1 + *b * (field == 'i' ? 19 : 10);
     }
@@ -231,7 +277,7 @@ static size_t frame_of(const uint8_t *line, size_t digits, uint8_t *frame)
             return 0;
         b[i / 2] = (uint8_t)(b[i / 2] * 16 + value);
     }
-    if (b[0] < 1 || b[0] > 11)
+    if (!layouts[b[0]])
         return 0;
     for (const char *field = layouts[b[0]]; *field; field++) {
         int bytes = field_bytes(*field, b + at);
