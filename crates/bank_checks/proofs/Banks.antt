@@ -1,6 +1,7 @@
--- A call on a bank's account, kinds 03, 04 and 05: what its first checks say, and the account stored anew. Assumes nothing.
+-- A call on a bank's account, kinds 03, 04, 05 and 13: what its first checks say, and the account stored anew. Assumes nothing.
 use mathlib.Core.Path.{_≡_, refl, sym, ap, ap₂, _∙_, subst}
 use mathlib.Core.Bool.{Bool, true, false, not, cond, _&&_}
+use mathlib.Core.List.{List}
 use Prim.Native.Nat.{ℕ, _≤_, _<_, _^_}
 use native.Mathlib.Omega.{arith}
 use borrow.Author.Tests.{le-leb}
@@ -17,7 +18,8 @@ use Rattle.rules.specs.Account as Rule
 use Rattle.rules.specs.Account.{Turnovers, isBank, codes, known, at, adjust}
 use Rattle.rules.specs.Command.{Command, wellFormed}
 use Rattle.rules.specs.Machine.{checks, effect, answer, firstFailure, withAccounts}
-use Rattle.rules.proofs.Checks.{numbered, passed, early, late}
+use Rattle.rules.proofs.Bools.{and-l}
+use Rattle.rules.proofs.Checks.{numbered, passed, later-passed, early, late}
 use Rattle.rules.proofs.Owners.{Tame}
 use Rattle.account.specs.declared.Account.{Account}
 use Rattle.account.specs.View.{toAccount, Light}
@@ -29,18 +31,19 @@ use Rattle.table.proofs.Stored.{stored-none, stored-with, stored-called}
 use Rattle.bank_checks.specs.Parts.{bankChecks}
 use Rattle.table.specs.Promise.{Slot}
 
--- what the answer a of the first checks says of the command k, which names the code c: j is the place where its account was looked for
-pub record Screened (t : Table) (k : Command) (c j : ℕ) (inRange : Bool) (a : ℕ) : Type 0 where
+-- what the answer a of the first checks says of the command k, which names the code c: j is the place where its account was looked for,
+-- `more` the test of the fourth check
+pub record Screened (t : Table) (k : Command) (c j : ℕ) (more : Bool) (a : ℕ) : Type 0 where
   pub declines : ¬ (a ≡ 0) → a ≡ answer (machineOf t) (call k)
-  pub ranges : a ≡ 0 → T inRange
+  pub passes : a ≡ 0 → T more
   pub place : a ≡ 0 → j ≡ placeOf c (codes (accountsOf t))
   pub below : a ≡ 0 → j < t .count
   -- the checks that are left
   pub rest : a ≡ 0 → firstFailure (drop 4 (checks (machineOf t) 0 k)) ≡ answer (machineOf t) (call k)
 
--- the commands that begin with these checks
-abbrev pub Begins : Table → Command → ℕ → Bool → Type 0
-Begins t k c inRange = take 4 (checks (machineOf t) 0 k) ≡ bankChecks (wellFormed k) (known c (accountsOf t)) (isBank (at c (accountsOf t))) inRange
+-- the commands that begin with these checks, the fourth of which answers n
+abbrev pub Begins : Table → Command → ℕ → ℕ → Bool → Type 0
+Begins t k c n more = take 4 (checks (machineOf t) 0 k) ≡ bankChecks (wellFormed k) (known c (accountsOf t)) (isBank (at c (accountsOf t))) n more
 
 pub refuses : (b : Bool) (x y : ℕ) → cond (not b) x y ≡ cond b y x
 refuses true x y = refl
@@ -83,28 +86,35 @@ module _ (t : Table) (g : Good t) (long : length (t .accounts) ≡ 64) where
           ap (λ x. cond (isBank x) rest 5) (account-at t g long c j d (q ∙ place-is t g c i e) (subst (λ n. n < t .count) (sym q) below))
       go false h = refl
 
-  pub screened : (k : Command) (c i j : ℕ) → i ≡ placeOf c (take (t .count) (t .codes)) → Slot i j → (d : Account) (formed tested inRange : Bool) → formed ≡ wellFormed k → Begins t k c inRange
-      → (a : ℕ) → a ≡ firstFailure (bankChecks formed (ltb i (t .count)) (isBank (toAccount (getD (t .accounts) j d))) tested) → tested ≡ inRange → Screened t k c j inRange a
+  pub screened : (n : ℕ) → T (ltb 0 n && true) → (k : Command) (c i j : ℕ) → i ≡ placeOf c (take (t .count) (t .codes)) → Slot i j → (d : Account) (formed tested more : Bool) → formed ≡ wellFormed k → Begins t k c n more
+      → (a : ℕ) → a ≡ firstFailure (bankChecks formed (ltb i (t .count)) (isBank (toAccount (getD (t .accounts) j d))) n tested) → tested ≡ more → Screened t k c j more a
   unfolding answer call bankChecks firstFailure
-  screened k c i j e s d f q r ef b a ea eq = record {
+  screened n p k c i j e s d f q r ef b a ea eq = record {
     declines = early 4 (checks (machineOf t) 0 k) a whole;
-    ranges = λ z. subst T eq (passed 6 (bankChecks f (ltb i (t .count)) own q) tt (sym ea ∙ z));
+    passes = λ z. subst T eq (last q (later-passed 3 tests p (sym ea ∙ z)));
     place = λ z. same z ∙ place-is t g c i e;
     below = λ z. subst (λ n. n < t .count) (sym (same z)) (in-table z);
-    rest = λ z. late 4 (checks (machineOf t) 0 k) (subst (λ cs. T (numbered cs)) (sym b) tt) (sym whole ∙ z);
+    rest = λ z. late 4 (checks (machineOf t) 0 k) (subst (λ cs. T (numbered cs)) (sym b) p) (sym whole ∙ z);
   }
     where
       own : Bool
       own = isBank (toAccount (getD (t .accounts) j d))
 
+      tests : List (ℕ × Bool)
+      tests = bankChecks f (ltb i (t .count)) own n q
+
+      last : (b : Bool) → cond b 0 n ≡ 0 → T b
+      last true z = tt
+      last false z = omega (arith, z, ltb→lt 0 n (and-l (ltb 0 n) true p))
+
       in-table : a ≡ 0 → i < t .count
-      in-table z = ltb→lt i (t .count) (passed 4 (bankChecks f (ltb i (t .count)) own q) tt (sym ea ∙ z))
+      in-table z = ltb→lt i (t .count) (passed 4 tests p (sym ea ∙ z))
 
       same : a ≡ 0 → j ≡ i
       same z = slot-same i j s (in-table z)
 
       whole : a ≡ firstFailure (take 4 (checks (machineOf t) 0 k))
-      whole = ea ∙ ap₂ (λ f n. cond f n 1) ef (bank-named c i j e s d (cond q 0 6)) ∙ ap (λ q. firstFailure (bankChecks (wellFormed k) (known c (accountsOf t)) (isBank (at c (accountsOf t))) q)) eq ∙ ap firstFailure (sym b)
+      whole = ea ∙ ap₂ (λ f n. cond f n 1) ef (bank-named c i j e s d (cond q 0 n)) ∙ ap (λ q. firstFailure (bankChecks (wellFormed k) (known c (accountsOf t)) (isBank (at c (accountsOf t))) n q)) eq ∙ ap firstFailure (sym b)
 
   -- an account changed at its place, its turnovers as they were
   pub changed : (k : Command) (c j : ℕ) (d : Account) → j ≡ placeOf c (codes (accountsOf t)) → j < t .count → (f : Rule.Account → Rule.Account) → Tame f → ((x : Rule.Account) → (f x) .turnovers ≡ x .turnovers)

@@ -10,13 +10,13 @@ use account::is_bank;
 use rules::first;
 use rules::is_code;
 
-// The first checks of 03, 04 and 05. Where the code is not known, x is any account.
-pub fn bank_checks(code: u32, known: bool, x: Account, in_range: bool) -> u64
-    ensures { λ r. ⌜ r ≡ firstFailure (bankChecks (isCode code) known (isBank (toAccount x)) «in_range») ⌝ }
+// The first checks of 03, 04 and 05, whose fourth is 6, and all those of 13, whose fourth is 26. Where the code is not known, x is any account.
+pub fn bank_checks(code: u32, known: bool, x: Account, number: u64, more: bool) -> u64
+    ensures { λ r. ⌜ r ≡ firstFailure (bankChecks (isCode code) known (isBank (toAccount x)) number more) ⌝ }
 {
     first(
         is_code(code),
         1,
-        first(known, 4, first(is_bank(x), 5, first(in_range, 6, 0))),
+        first(known, 4, first(is_bank(x), 5, first(more, number, 0))),
     )
 }

@@ -22,7 +22,7 @@ pub fn bank_limited(t: Table, code: u32, ltk: i64, lpo: i64) -> Amended
     let j = slot(i);
     let x = t.accounts[j];
     let in_range = (0 <= ltk) & is_limit(ltk) & is_limit(lpo);
-    let a = bank_checks(code, i < n, x, in_range);
+    let a = bank_checks(code, i < n, x, 6, in_range);
     if a != 0 {
         return Amended {
             answer: a,

@@ -25,7 +25,7 @@ pub fn funded(t: Table, code: u32, amount: i64) -> Amended
     let i = place(&t.codes, n, code);
     let j = slot(i);
     let x = t.accounts[j];
-    let a = bank_checks(code, i < n, x, is_amount(amount));
+    let a = bank_checks(code, i < n, x, 6, is_amount(amount));
     if a != 0 {
         return Amended {
             answer: a,
@@ -74,7 +74,7 @@ pub fn withdrawn(t: Table, code: u32, amount: i64) -> Amended
     let i = place(&t.codes, n, code);
     let j = slot(i);
     let x = t.accounts[j];
-    let a = bank_checks(code, i < n, x, is_amount(amount));
+    let a = bank_checks(code, i < n, x, 6, is_amount(amount));
     if a != 0 {
         return Amended {
             answer: a,

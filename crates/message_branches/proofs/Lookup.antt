@@ -1,6 +1,6 @@
 -- How marks come about account by account, and what a look-up among them finds. Assumes nothing.
 use mathlib.Core.Path.{_≡_, refl, sym, ap, ap₂, _∙_}
-use mathlib.Core.Bool.{Bool, true, false, not, cond, _&&_, _||_, or-false, or-assoc}
+use mathlib.Core.Bool.{Bool, true, false, not, cond, _&&_, _||_}
 use mathlib.Core.List.{List, [], _∷_, _++_, map, append-nil}
 use Prim.Native.Nat.{ℕ, zero, suc, _+_, _-_, _≤_, _<_}
 use native.Mathlib.Omega.{arith}
@@ -68,25 +68,6 @@ module _ (f : Account → Bool) (d : Bool) where
   looked c m (x ∷ xs) more =
       elim (eqb (x .code) c) as (λ b. getD (f x ∷ (map f xs ++ replicate m d)) (cond b 0 (suc (placeOf c (codes xs ++ more)))) d ≡ cond (b || known c xs) (f (cond b x (at c xs))) d)
       [ true ↦ refl | false ↦ looked c m xs more ]
-
--- ---- whether there is one
-
-module _ (f : Account → Bool) where
-  some-join : (xs : List Account) (x : Account) → some? f (xs ++ (x ∷ [])) ≡ (some? f xs || f x)
-  unfolding some?
-  some-join [] x = or-false (f x)
-  some-join (y ∷ xs) x = ap (λ (b : Bool). f y || b) (some-join xs x) ∙ sym (or-assoc (f y) (some? f xs) (f x))
-
-  -- with the account at a place of the table
-  pub some-at : (t : Table) → Good t → length (t .accounts) ≡ 64 → (i : ℕ) (x : Program.Account) (a v : Bool) → i < t .count
-      → a ≡ some? f (take i (accountsOf t)) → v ≡ f (toAccount (getD (t .accounts) i x)) → (a || v) ≡ some? f (take (i + 1) (accountsOf t))
-  some-at t g long i x a v h e q =
-      ap₂ (λ (b c : Bool). b || c) e (q ∙ ap f (sym (accounts-at t (g .within) long i x blank h)))
-      ∙ sym (some-join (take i (accountsOf t)) (getD (accountsOf t) i blank))
-      ∙ ap (some? f) (sym (take-suc (accountsOf t) i blank (omega (arith, accounts-length t (g .within) long))) ∙ ap (λ k. take k (accountsOf t)) (sym (add-one i)))
-
-  pub some-all : (t : Table) → Good t → length (t .accounts) ≡ 64 → (i : ℕ) → i ≡ t .count → some? f (take i (accountsOf t)) ≡ some? f (accountsOf t)
-  some-all t g long i e = ap (some? f) (take-all i (accountsOf t) (omega (arith, accounts-length t (g .within) long)))
 
 -- ---- whether the sender is a bank that has a branch
 

@@ -22,6 +22,10 @@ weight R = 16
 unfoldable pub has : Letter → ℕ → Bool
 has l byte = eqb (byte / weight l % 2) 1
 
+-- 1 of the marked bank
+unfoldable pub mark : Account → ℕ
+mark x = cond (x .marked) 1 0
+
 -- ---- what a payment meets
 
 -- on a party's account x or on its bank's, b: a letter on a bank also holds for its branches
@@ -43,10 +47,6 @@ lettersPass credit x b y d = maySend credit x b && mayReceive (b .marked) y d
 
 unfoldable pub lettersAllow : Bool → ℕ → ℕ → List Account → Bool
 lettersAllow credit s r xs = lettersPass credit (at s xs) (at (bankOf s xs) xs) (at r xs) (at (bankOf r xs) xs)
-
--- 1 of the marked bank
-unfoldable pub mark : Account → ℕ
-mark x = cond (x .marked) 1 0
 
 -- ---- what a search report shows
 

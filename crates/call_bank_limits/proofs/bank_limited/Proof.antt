@@ -37,7 +37,7 @@ checked c =
     let s = entry c in
     let p = c .before .before .before .before .before .place in
     let j = c .before .before .before .before .slot in
-    screened (s .args .t1) (s .pre) (long s) (asked s) (s .args .code) (p .result) (j .result) (p .ensures) (j .ensures) _ (isCode (s .args .code)) _ (inRange s)
+    screened (s .args .t1) (s .pre) (long s) 6 tt (asked s) (s .args .code) (p .result) (j .result) (p .ensures) (j .ensures) _ (isCode (s .args .code)) _ (inRange s)
     (and-money (isCode (s .args .code)) (s .args .ltk) (s .fits .ltk) ∙ and-money _ (s .args .lpo) (s .fits .lpo)) refl (c .bank-checks .result) (c .bank-checks .ensures)
     (limits-tested (s .args .ltk) (s .args .lpo) _ _ (c .before .before .is-limit .result) (c .before .is-limit2 .result) (toZ-ofZ (s .fits .ltk)) (toZ-ofZ (s .fits .lpo)) (c .before .before .is-limit .ensures) (c .before .is-limit2 .ensures))
 

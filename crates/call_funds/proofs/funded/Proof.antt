@@ -38,7 +38,7 @@ checked c =
     let s = entry c in
     let p = c .before .before .before .before .place in
     let j = c .before .before .before .slot in
-    screened (s .args .t1) (s .pre) (long s) (asked s) (s .args .code) (p .result) (j .result) (p .ensures) (j .ensures) _ (isCode (s .args .code)) (c .before .is-amount .result) (isAmount (s .args .amount))
+    screened (s .args .t1) (s .pre) (long s) 6 tt (asked s) (s .args .code) (p .result) (j .result) (p .ensures) (j .ensures) _ (isCode (s .args .code)) (c .before .is-amount .result) (isAmount (s .args .amount))
     (and-money (isCode (s .args .code)) (s .args .amount) (s .fits .amount)) refl (c .bank-checks .result) (c .bank-checks .ensures)
     (rw (toZ-ofZ (s .fits .amount)) at (c .before .is-amount .ensures))
 
@@ -79,7 +79,7 @@ returns c =
 
 amount-of-requires : tie.Need-amount-of-requires
 amount-of-requires c κs =
-    rw (toZ-ofZ (c .before .before .before .before .before .before .before .before .fits .amount)) (checked (c .before) .ranges (c .if1 .left))
+    rw (toZ-ofZ (c .before .before .before .before .before .before .before .before .fits .amount)) (checked (c .before) .passes (c .if1 .left))
 
 total-requires : tie.Need-total-requires
 total-requires c κs = search needs

@@ -9,8 +9,9 @@ use Rattle.rules.specs.Command.{some?}
 use Rattle.table.specs.View.{accountsOf}
 use Rattle.table.proofs.Places.{length-mapped}
 use Rattle.table.proofs.Found.{place-known}
+use Rattle.table.proofs.Passes.{some-at, some-all}
 use Rattle.message_branches.specs.Marks.{marks, isOwned, isTimely}
-use Rattle.message_branches.proofs.Lookup.{marks-none, marks-at, marks-all, some-at, some-all, head-found}
+use Rattle.message_branches.proofs.Lookup.{marks-none, marks-at, marks-all, head-found}
 use Rattle.message_branches.proofs.branches_of.Statement.{statement}
 use Rattle.message_branches.proofs.branches_of.Tie as tie
 

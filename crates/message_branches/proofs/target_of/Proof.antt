@@ -10,7 +10,8 @@ use Rattle.table.specs.View.{accountsOf}
 use Rattle.table.proofs.Places.{length-mapped}
 use Rattle.table.proofs.Found.{place-known}
 use Rattle.message_branches.specs.Marks.{isOwned}
-use Rattle.message_branches.proofs.Lookup.{some-at, some-all, head-found}
+use Rattle.table.proofs.Passes.{some-at, some-all}
+use Rattle.message_branches.proofs.Lookup.{head-found}
 use Rattle.message_branches.proofs.target_of.Statement.{statement}
 use Rattle.message_branches.proofs.target_of.Tie as tie
 
