@@ -87,7 +87,7 @@ module _ (k : Command) (t : Table) (ids days : List ℕ) (used : ℕ) (g : Sound
       let moved : viewOf u ids′ days′ used′ ≡ next (viewOf t ids days used) (lent 0 k) = v ∙ next-effect 0 e in
       record { says = sym e; moves = moved; refused = λ h. absurd (h refl); behind = b; sound = next-sound 0 u ids′ days′ used′ w q f l moved }
 
--- 01 to 06: a call on the table alone
+-- a call on the table alone
 pub settled-table : (k : Command) (t : Table) (ids days : List ℕ) (used : ℕ) (r : Reply) → T (plain k) → Sound t ids days used → Called k t r
     → Settled k t ids days used (record { answer = r .answer; table = r .table; used = used }) ids days
 unfolding viewOf withBook machineOf

@@ -16,7 +16,7 @@ use Rattle.ledger.specs.View.{lent}
 use Rattle.ledger.specs.Calls.{plain}
 use Rattle.ledger.proofs.Reaches.{withBook, on-table}
 
--- ---- 01 to 06
+-- ---- on the table alone
 
 module _ (es : List Entry) (room : ℕ) where
   same-next : (m : Machine) (k : Command) → T (plain k) → next (withBook es m) (lent room k) ≡ withBook es (next m (call k))
@@ -52,7 +52,7 @@ module _ (es : List Entry) (room : ℕ) where
 
 pub inv-book : (es : List Entry) (m : Machine) → Invariant m → Book (m .day) es → Invariant (withBook es m)
 unfolding withBook
-inv-book es m v b = record { fit = v .fit; table = v .table; owned = v .owned; earlier = v .earlier; bounded = v .bounded; book = b; day-fits = v .day-fits }
+inv-book es m v b = record { fit = v .fit; table = v .table; owned = v .owned; earlier = v .earlier; bounded = v .bounded; one-mark = v .one-mark; book = b; day-fits = v .day-fits }
 
 pub inv-table : (es : List Entry) (t : Table) → Invariant (withBook es (machineOf t)) → Invariant (machineOf t)
 unfolding withBook machineOf

@@ -4,7 +4,7 @@ use mathlib.Core.Bool.{Bool, true, _&&_}
 use mathlib.Core.List.{List, [], _∷_}
 use Prim.Native.Nat.{ℕ}
 use lib.Dec.{T, ltb}
-use Rattle.rules.specs.Command.{Command, Bank, Branch, Funding, Withdrawal, BankLimits, Payment, Change, Deletion, Query, Opening, Search}
+use Rattle.rules.specs.Command.{Command, Bank, Branch, Funding, Withdrawal, BankLimits, Payment, Change, Deletion, Query, Opening, Search, Letters, Mark}
 use Rattle.rules.specs.Machine.{Machine, withAccounts, hasPlace, checks, effect, answer}
 use Rattle.rules.specs.Message.{Entry, limitChecks}
 use Rattle.rules.specs.Payment.{paymentChecks}
@@ -49,6 +49,8 @@ module _ (m : Machine) (es : List Entry) (room : ℕ) where
   looks (Query h is) = (tt, tt)
   looks (Opening d) = (tt, (refl, refl))
   looks (Search h cs) = (tt, tt)
+  looks (Letters c l) = (tt, ((refl, refl), (refl, refl)))
+  looks (Mark c) = (tt, ((refl, refl), (refl, refl)))
 
   pub on-table : (k : Command) → T (plain k) → Plain k
   on-table k p = go (reach k) (looks k .1) p

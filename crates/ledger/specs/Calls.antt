@@ -5,7 +5,7 @@ use mathlib.Core.List.{List, [], _∷_}
 use lib.Dec.{T}
 use lib.ListN.{length, take}
 use Prim.Native.Nat.{ℕ}
-use Rattle.rules.specs.Command.{Command, Bank, Branch, Funding, Withdrawal, BankLimits, Payment, Change, Deletion, Query, Opening, Search}
+use Rattle.rules.specs.Command.{Command, Bank, Branch, Funding, Withdrawal, BankLimits, Payment, Change, Deletion, Query, Opening, Search, Letters, Mark}
 use Rattle.table.specs.declared.Reply.{Reply}
 use Rattle.table.specs.Promise.{Called}
 use Rattle.ledger.specs.declared.Ledger.{Ledger}
@@ -34,6 +34,8 @@ reach (Deletion h i t) = OnBook
 reach (Query h is) = OnReport
 reach (Opening d) = OnBook
 reach (Search h cs) = OnReport
+reach (Letters c l) = OnTable
+reach (Mark c) = OnTable
 
 abbrev pub tableAlone : Reach → Bool
 tableAlone OnTable = true
@@ -45,7 +47,7 @@ noReport OnTable = true
 noReport OnBook = true
 noReport OnReport = false
 
--- a kind that looks at the table alone, 01 to 06
+-- a kind that looks at the table alone: 01 to 06, 0c, 13
 abbrev pub plain : Command → Bool
 plain k = tableAlone (reach k)
 
@@ -56,7 +58,7 @@ silent k = noReport (reach k)
 -- ---- the contracts
 
 pub record CallsAreSteps : Type 0 where
-  -- 01 to 06: `bank_open`, `branch_open`, `fund`, `withdraw`, `bank_limits`, `pay`. The book stays with the caller
+  -- 01 to 06, 0c, 13: `bank_open`, `branch_open`, `fund`, `withdraw`, `bank_limits`, `pay`, `set_letters`, `mark_bank`. The book stays with the caller
   pub called : (k : Command) (l : Ledger) (report : List ℕ) (r : Reply) → T (plain k) → SoundLedger l → Called k (l .table) r
       → Step l (lent (length report) k) (record { answer = r .answer; report = [] }) (record { table = r .table; book = l .book })
   -- 07, 08, 0a: `change`, `deletion`, `open`. The book is lent
