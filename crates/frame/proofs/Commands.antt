@@ -8,9 +8,9 @@ use lib.ListN.{getD, length-map}
 use lib.Dec.{ltb, eqb}
 use borrow.Author.Tests.{eqb-true, ne-eqb}
 use Rattle.octets.specs.Octets.{isBytes}
-use Rattle.rules.specs.Command.{Item, Command, Bank, Branch, Funding, Withdrawal, BankLimits, Payment, Change, Deletion, Query, Opening, Search, every, isCode, isMethod, isDay, isHeader, isItem, wellFormed}
+use Rattle.rules.specs.Command.{Item, Command, Bank, Branch, Funding, Withdrawal, BankLimits, Payment, Change, Deletion, Query, Opening, Search, Letters, Mark, every, isCode, isMethod, isLetters, isDay, isHeader, isItem, wellFormed}
 use Rattle.frame.specs.Field.{Field, Row, Values, plainFits, rowFits, fits, may, areFields, allFit}
-use Rattle.frame.specs.Frame.{Kind, K01, K02, K03, K04, K05, K06, K07, K08, K09, K0a, K0b, kindByte, itemRow, idRow, fieldsOf, kinds, withByte, kindsAt, layoutOf, layout, isFrame, kindOf, itemValues, idValues, valuesOf, itemOf, idOf, commandOf, commandIn, commandsOf}
+use Rattle.frame.specs.Frame.{Kind, K01, K02, K03, K04, K05, K06, K07, K08, K09, K0a, K0b, K0c, K13, kindByte, itemRow, idRow, fieldsOf, kinds, withByte, kindsAt, layoutOf, layout, isFrame, kindOf, itemValues, idValues, valuesOf, itemOf, idOf, commandOf, commandIn, commandsOf}
 use Rattle.frame.proofs.Fields.{narrow}
 
 -- ---- lists
@@ -40,6 +40,8 @@ command-back (Deletion h i t) = refl
 command-back (Query h is) = ap (Query h) (map-back idValues idOf (λ i. refl) is)
 command-back (Opening d) = refl
 command-back (Search h cs) = refl
+command-back (Letters c l) = refl
+command-back (Mark c) = refl
 
 -- a kind with the values of its fields
 abbrev pub Filled : Type 0
@@ -62,6 +64,8 @@ values-back K09 v =
     (map-back idOf idValues (λ r. refl) (v .1 .1 .1 .1 .0))
 values-back K0a v = refl
 values-back K0b v = refl
+values-back K0c v = refl
+values-back K13 v = refl
 
 -- ---- in range
 
@@ -74,7 +78,7 @@ unfolding rowFits plainFits idValues
 id-range i = sym (and-true (isBytes 10 i))
 
 pub in-range : (c : Command) → wellFormed c ≡ allFit (fieldsOf (kindOf c)) (valuesOf c)
-unfolding fieldsOf kindOf valuesOf wellFormed allFit fits plainFits rowFits isMethod isDay isHeader isItem itemValues idValues
+unfolding fieldsOf kindOf valuesOf wellFormed allFit fits plainFits rowFits isMethod isLetters isDay isHeader isItem itemValues idValues
 in-range (Bank c) = sym (and-true (isCode c))
 in-range (Branch c o l p) = simp (and-assoc, and-true)
 in-range (Funding c a) = simp and-true
@@ -86,6 +90,8 @@ in-range (Deletion h i t) = simp (and-assoc, and-true)
 in-range (Query h is) = rw (length-map, ← every-map idValues (isBytes 10) (rowFits idRow) id-range is) (simp (and-assoc, and-true))
 in-range (Search h cs) = simp (and-assoc, and-true)
 in-range (Opening d) = sym (and-true (ltb d (2 ^ 32)))
+in-range (Letters c l) = simp and-true
+in-range (Mark c) = sym (and-true (isCode c))
 
 -- ---- kinds
 
@@ -108,6 +114,8 @@ kind-known K08 = record { byte = refl; alone = refl; fields = refl }
 kind-known K09 = record { byte = refl; alone = refl; fields = refl }
 kind-known K0a = record { byte = refl; alone = refl; fields = refl }
 kind-known K0b = record { byte = refl; alone = refl; fields = refl }
+kind-known K0c = record { byte = refl; alone = refl; fields = refl }
+kind-known K13 = record { byte = refl; alone = refl; fields = refl }
 
 pub kind-layout : (k : Kind) → layout (kindByte k) ≡ fieldsOf k
 unfolding layout layoutOf

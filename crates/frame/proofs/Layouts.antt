@@ -2,6 +2,7 @@
 use mathlib.Core.Path.{_≡_, refl, sym, ap, _∙_}
 use mathlib.Core.List.{List, [], _∷_}
 use mathlib.Core.Bool.{Bool, true, false, cond, _&&_}
+use mathlib.Core.Logic.{_⊎_, inl, inr}
 use Prim.Native.Nat.{ℕ, _+_, _*_, _<_, _≤_}
 use native.Mathlib.Omega.{arith}
 use native.Mathlib.Nat.{mul-le-mul-right}
@@ -23,6 +24,12 @@ use Rattle.frame.proofs.Commands.{kind-none, Unless, unless-none}
 pub kind : (b : List ℕ) (x k : ℕ) (r : Bool) → x ≡ k → x ≡ getD b 0 0 → r ≡ areFields (layout k) b 1 → r ≡ isFrame b
 unfolding isFrame
 kind b x k r e f g = g ∙ ap (λ (n : ℕ). areFields (layout n) b 1) (sym e ∙ f)
+
+-- kinds 01 and 13 have one layout
+pub kind-code : (b : List ℕ) (x : ℕ) (r : Bool) → (x ≡ 1) ⊎ (x ≡ 19) → x ≡ getD b 0 0 → r ≡ areFields (layout 1) b 1 → r ≡ isFrame b
+unfolding layout kinds fieldsOf
+kind-code b x r (inl e) f g = kind b x 1 r e f g
+kind-code b x r (inr e) f g = kind b x 19 r e f g
 
 -- kinds 3 and 4 have one layout
 pub kind-three : (b : List ℕ) (x : ℕ) (r : Bool) → 3 ≤ x → x < 5 → x ≡ getD b 0 0 → r ≡ areFields (layout 3) b 1 → r ≡ isFrame b

@@ -5,14 +5,14 @@ use mathlib.Core.List.{List, [], _∷_, map}
 use Prim.Native.Nat.{ℕ, _%_}
 use lib.ListN.{length, getD}
 use lib.Dec.{leb, eqb}
-use Rattle.rules.specs.Command.{Header, Item, Command, Bank, Branch, Funding, Withdrawal, BankLimits, Payment, Change, Deletion, Query, Opening, Search, wellFormed}
+use Rattle.rules.specs.Command.{Header, Item, Command, Bank, Branch, Funding, Withdrawal, BankLimits, Payment, Change, Deletion, Query, Opening, Search, Letters, Mark, wellFormed}
 use Rattle.frame.specs.Hex.{allHex, unhex}
 use Rattle.frame.specs.Field.{Plain, Text, Word, Money, Field, Code, UpTo, Second, Free, Items, Conditions, Never, Row, Values, areFields, allBytes, allValues}
 
 -- ---- the layout of each kind
 
 pub data Kind : Type 0 where
-  K01 K02 K03 K04 K05 K06 K07 K08 K09 K0a K0b : Kind
+  K01 K02 K03 K04 K05 K06 K07 K08 K09 K0a K0b K0c K13 : Kind
 
 -- byte 0 is the kind
 unfoldable pub kindByte : Kind → ℕ
@@ -27,6 +27,8 @@ kindByte K08 = 8
 kindByte K09 = 9
 kindByte K0a = 10
 kindByte K0b = 11
+kindByte K0c = 12
+kindByte K13 = 19
 
 -- H is the header: C, 32 bytes of id, day, second
 abbrev pub headed : List Field → List Field
@@ -52,9 +54,11 @@ fieldsOf K08 = headed (Free (Text 10) ∷ Free (Word 1) ∷ [])
 fieldsOf K09 = headed (Items idRow ∷ [])
 fieldsOf K0a = Free (Word 4) ∷ []
 fieldsOf K0b = headed (Conditions ∷ [])
+fieldsOf K0c = Code ∷ UpTo 31 ∷ []
+fieldsOf K13 = Code ∷ []
 
 unfoldable pub kinds : List Kind
-kinds = K01 ∷ K02 ∷ K03 ∷ K04 ∷ K05 ∷ K06 ∷ K07 ∷ K08 ∷ K09 ∷ K0a ∷ K0b ∷ []
+kinds = K01 ∷ K02 ∷ K03 ∷ K04 ∷ K05 ∷ K06 ∷ K07 ∷ K08 ∷ K09 ∷ K0a ∷ K0b ∷ K0c ∷ K13 ∷ []
 
 -- those of some kinds whose byte n is
 unfoldable pub withByte : ℕ → List Kind → List Kind
@@ -94,6 +98,8 @@ kindOf (Deletion h i t) = K08
 kindOf (Query h is) = K09
 kindOf (Opening d) = K0a
 kindOf (Search h cs) = K0b
+kindOf (Letters c l) = K0c
+kindOf (Mark c) = K13
 
 unfoldable pub itemValues : Item → Row itemRow
 itemValues i = (i .account, (i .type, (i .value, tt)))
@@ -114,6 +120,8 @@ valuesOf (Deletion h i t) = (h .sender, (h .id, (h .moment .day, (h .moment .sec
 valuesOf (Query h is) = (h .sender, (h .id, (h .moment .day, (h .moment .second, (map idValues is, tt)))))
 valuesOf (Opening d) = (d, tt)
 valuesOf (Search h cs) = (h .sender, (h .id, (h .moment .day, (h .moment .second, (cs, tt)))))
+valuesOf (Letters c l) = (c, (l, tt))
+valuesOf (Mark c) = (c, tt)
 
 abbrev pub headerOf : ℕ → List ℕ → ℕ → ℕ → Header
 headerOf sender id day second = record { sender = sender; id = id; moment = record { day = day; second = second } }
@@ -137,6 +145,8 @@ commandOf K08 v = Deletion (headerOf (v .0) (v .1 .0) (v .1 .1 .0) (v .1 .1 .1 .
 commandOf K09 v = Query (headerOf (v .0) (v .1 .0) (v .1 .1 .0) (v .1 .1 .1 .0)) (map idOf (v .1 .1 .1 .1 .0))
 commandOf K0a v = Opening (v .0)
 commandOf K0b v = Search (headerOf (v .0) (v .1 .0) (v .1 .1 .0) (v .1 .1 .1 .0)) (v .1 .1 .1 .1 .0)
+commandOf K0c v = Letters (v .0) (v .1 .0)
+commandOf K13 v = Mark (v .0)
 
 -- ---- the frame of a command, and the command of a frame
 

@@ -9,16 +9,17 @@ use frame_fields::conditions_at;
 use frame_fields::is_code_at;
 use frame_fields::rows_at;
 use frame_fields::second_at;
+use rules::is_letters;
 use rules::is_method;
 
-// Byte 0 is the kind. It chooses the fields behind it and, with them, the length.
+// Byte 0 is the kind. It chooses the fields behind it and, with them, the length. The cases are decimal: kind 13 is 19.
 pub fn well_formed(b: &[u8]) -> bool
     ensures { λ r. ⌜ r ≡ isFrame (now (b .entry)) ⌝ }
 {
     let n = b.len();
     let kind = at(b, 0);
     match kind {
-        1 => is_code_at(b, 1) & (n == 7),
+        1 | 19 => is_code_at(b, 1) & (n == 7),
         2 => {
             is_code_at(b, 1)
                 & (is_code_at(b, 7) & (is_method(at(b, 13)) & (is_method(at(b, 14)) & (n == 15))))
@@ -31,6 +32,7 @@ pub fn well_formed(b: &[u8]) -> bool
         9 => is_code_at(b, 1) & (second_at(b, 43) & rows_at(b, 10)),
         10 => n == 5,
         11 => is_code_at(b, 1) & (second_at(b, 43) & conditions_at(b)),
+        12 => is_code_at(b, 1) & (is_letters(at(b, 7)) & (n == 8)),
         _ => false,
     }
 }

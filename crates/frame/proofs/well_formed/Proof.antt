@@ -1,9 +1,10 @@
 use mathlib.Core.Path.{refl}
+use mathlib.Core.Logic.{inl, inr}
 use native.Mathlib.Omega.{arith}
-use Rattle.rules.specs.Command.{isMethod}
+use Rattle.rules.specs.Command.{isMethod, isLetters}
 use Rattle.frame.specs.Field.{size, rowSize, width, may, areFields}
 use Rattle.frame.specs.Frame.{kindByte, kinds, fieldsOf, layout}
-use Rattle.frame.proofs.Layouts.{kind, kind-three, kind-other, from-three}
+use Rattle.frame.proofs.Layouts.{kind, kind-code, kind-three, kind-other, from-three}
 use Rattle.frame.proofs.Commands.{Unless}
 use borrow.Author.Needs.{needs}
 use Rattle.frame.proofs.well_formed.Statement.{statement}
@@ -81,11 +82,20 @@ conditions-at-requires c κs = search needs
 is-code-at-requires-11 : tie.Need-is-code-at-requires-11
 is-code-at-requires-11 c κs = search needs
 
+at-requires-5 : tie.Need-at-requires-5
+at-requires-5 c κs = search needs
+
+is-letters-requires : tie.Need-is-letters-requires
+is-letters-requires c κs = search needs
+
+is-code-at-requires-12 : tie.Need-is-code-at-requires-12
+is-code-at-requires-12 c κs = search needs
+
 returns : tie.Need-returns
 unfolding areFields may width size rowSize layout fieldsOf
 returns c =
     let a = c .before in
-    kind _ _ 1 _ (a .match .keys1) (a .before .at .ensures) (rw (c .is-code-at .ensures))
+    kind-code _ _ _ (a .match .keys1) (a .before .at .ensures) (rw (c .is-code-at .ensures))
 
 returns-2 : tie.Need-returns-2
 unfolding isMethod areFields may width size rowSize layout fieldsOf
@@ -142,27 +152,35 @@ returns-9 c =
     kind _ _ 11 _ (a .match .keys9) (a .before .at .ensures) (rw (c .conditions-at .ensures, c .before .second-at4 .ensures, c .before .before .is-code-at10 .ensures))
 
 returns-10 : tie.Need-returns-10
-unfolding areFields may width size rowSize layout fieldsOf
+unfolding isLetters areFields may width size rowSize layout fieldsOf
 returns-10 c =
     let a = c .before .before .before in
-    let r = a .match .rest in
-    kind-three _ _ _
-    (from-three _ (c .before .before .if1 .left) (r .0 .0 .0 .0 .0 .0 .0 .0 .1) (r .0 .0 .0 .0 .0 .0 .0 .1))
-    (c .before .if2 .taken)
-    (a .before .at .ensures)
-    (rw (c .is-code-at11 .ensures))
+    kind _ _ 12 _ (a .match .keys10) (a .before .at .ensures) (rw (c .is-letters .ensures, c .before .at5 .ensures, c .before .before .is-code-at11 .ensures))
 
 returns-11 : tie.Need-returns-11
 unfolding areFields may width size rowSize layout fieldsOf
-returns-11 c = kind _ _ 0 _ (omega arith) (c .before .before .at .ensures) refl
+returns-11 c =
+    let a = c .before .before .before in
+    let r = a .match .rest .0 .0 .0 .0 .0 .0 .0 .0 in
+    kind-three _ _ _
+    (from-three _ (c .before .before .if1 .left) (λ e. r .0 .1 (inl e)) (r .1))
+    (c .before .if2 .taken)
+    (a .before .at .ensures)
+    (rw (c .is-code-at12 .ensures))
 
 returns-12 : tie.Need-returns-12
+unfolding areFields may width size rowSize layout fieldsOf
+returns-12 c = kind _ _ 0 _ (omega arith) (c .before .before .at .ensures) refl
+
+returns-13 : tie.Need-returns-13
 unfolding kindByte kinds Unless
-returns-12 c =
+returns-13 c =
     let r = c .before .before .match .rest in
+    let l = r .0 .0 .0 .0 .0 .0 .0 .0 in
     let h = c .if2 .left in
-    kind-other _ _ (c .before .before .before .at .ensures) (r .0 .0 .0 .0 .0 .0 .0 .0 .1) (r .0 .0 .0 .0 .0 .0 .0 .1) (λ e. omega arith) (λ e. omega arith)
-    (r .0 .0 .0 .0 .0 .0 .1) (r .0 .0 .0 .0 .0 .1) (r .0 .0 .0 .0 .1) (r .0 .0 .0 .1) (r .0 .0 .1) (r .0 .1) (r .1)
+    kind-other _ _ (c .before .before .before .at .ensures) (λ e. l .0 .1 (inl e)) (l .1) (λ e. omega arith) (λ e. omega arith)
+    (r .0 .0 .0 .0 .0 .0 .0 .1) (r .0 .0 .0 .0 .0 .0 .1) (r .0 .0 .0 .0 .0 .1) (r .0 .0 .0 .0 .1) (r .0 .0 .0 .1) (r .0 .0 .1) (r .0 .1) (r .1)
+    (λ e. l .0 .1 (inr e))
 
 pub well-formed-spec : {M : Type 1} → statement M
 well-formed-spec =
@@ -192,6 +210,9 @@ well-formed-spec =
     second-at-requires-4
     conditions-at-requires
     is-code-at-requires-11
+    at-requires-5
+    is-letters-requires
+    is-code-at-requires-12
     returns
     returns-2
     returns-3
@@ -203,4 +224,5 @@ well-formed-spec =
     returns-9
     returns-10
     returns-11
-    returns-12)
+    returns-12
+    returns-13)
