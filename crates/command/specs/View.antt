@@ -8,7 +8,7 @@ use Rattle.rules.specs.Command as Rule
 use Rattle.frame_fields.specs.Conditions.{conditionsIn}
 use Rattle.command.specs.declared.Header.{Header}
 use Rattle.command.specs.declared.Command.{Command}
-use Rattle.command.specs.declared.Command.the-variants.{Nothing, Bank, Branch, Funding, Withdrawal, BankLimits, Payment, Change, Deletion, Query, Opening, Search}
+use Rattle.command.specs.declared.Command.the-variants.{Nothing, Bank, Branch, Funding, Withdrawal, BankLimits, Payment, Change, Deletion, Query, Opening, Search, Letters, Mark}
 use Rattle.command.specs.declared.Order.{Order}
 
 -- the header of a message, with its id from the array beside it
@@ -39,6 +39,8 @@ toCommands (Deletion h t) id accounts types values = Rule.Deletion (toHeader h i
 toCommands (Query h n) id accounts types values = Rule.Query (toHeader h id) (idsFrom 0 n accounts) ∷ []
 toCommands (Opening d) id accounts types values = Rule.Opening d ∷ []
 toCommands (Search h n) id accounts types values = Rule.Search (toHeader h id) (conditionsIn n accounts) ∷ []
+toCommands (Letters c l) id accounts types values = Rule.Letters c l ∷ []
+toCommands (Mark c) id accounts types values = Rule.Mark c ∷ []
 
 unfoldable pub ordered : Order → List Rule.Command
 ordered o = toCommands (o .command) (o .id) (o .accounts) (o .types) (o .values)

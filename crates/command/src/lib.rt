@@ -24,7 +24,7 @@ pub struct Header {
     pub second: u32,
 }
 
-// One variant for each kind, 01 to 0b. What is an array stands beside it, in the order.
+// One variant for each kind, 01 to 0c and 13. What is an array stands beside it, in the order.
 pub enum Command {
     Nothing,
     Bank(u32),
@@ -38,6 +38,8 @@ pub enum Command {
     Query(Header, usize),
     Opening(u32),
     Search(Header, usize),
+    Letters(u32, u8),
+    Mark(u32),
 }
 
 // A command with its arrays: a message's id, and the account ids, types and values of its items. A search's conditions stand where the account ids do, as
@@ -118,6 +120,22 @@ fn opening(b: &[u8]) -> Command
     ensures { λ r. ⌜ r ≡ Command.Opening (number (part 1 4 (now (b .entry)))) ⌝ }
 {
     Command::Opening(u32_at(b, 1))
+}
+
+// 0c: code, letters.
+fn letters(b: &[u8]) -> Command
+    requires { ⌜ length (now b) ≡ 8 ⌝ }
+    ensures { λ r. ⌜ r ≡ Command.Letters (decimal 0 (part 1 6 (now (b .entry)))) (getD (now (b .entry)) 7 0) ⌝ }
+{
+    Command::Letters(code_at(b, 1), b[7])
+}
+
+// 13: code.
+fn mark(b: &[u8]) -> Command
+    requires { ⌜ length (now b) ≡ 7 ⌝ }
+    ensures { λ r. ⌜ r ≡ Command.Mark (decimal 0 (part 1 6 (now (b .entry)))) ⌝ }
+{
+    Command::Mark(code_at(b, 1))
 }
 
 // A command without arrays.
@@ -287,6 +305,8 @@ pub fn parse(b: &[u8]) -> Order
         9 => query(b),
         10 => alone(opening(b)),
         11 => search(b),
+        12 => alone(letters(b)),
+        19 => alone(mark(b)),
         _ => alone(Command::Nothing),
     }
 }

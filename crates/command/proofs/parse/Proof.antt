@@ -4,7 +4,7 @@ use native.Mathlib.Omega.{arith}
 use lib.ListN.{getD}
 use borrow.Author.Tests.{not-true, not-false}
 use Rattle.frame.specs.Field.{size, width, plainValue, valueOf, allValues}
-use Rattle.frame.specs.Frame.{K01, K02, K03, K04, K05, K06, K0a, kindByte, kinds, kindsAt, fieldsOf, commandOf}
+use Rattle.frame.specs.Frame.{K01, K02, K03, K04, K05, K06, K0a, K0c, K13, kindByte, kinds, kindsAt, fieldsOf, commandOf}
 use Rattle.frame.proofs.Commands.{kind-none, Rest, rest-none}
 use Rattle.command.specs.View.{toCommands}
 use Rattle.octets.proofs.Places.{part-first}
@@ -114,8 +114,26 @@ search-requires c κs =
     let w = c .before .before .before in
     (sym (w .well-formed .ensures) ∙ not-false _ (c .before .before .if1 .left), c .match .keys11)
 
+letters-requires : tie.Need-letters-requires
+unfolding kindByte fieldsOf end width size
+letters-requires c κs =
+    let w = c .before .before .before in
+    kind-length K0c (w .before .before .args .b .now) (sym (w .well-formed .ensures) ∙ not-false _ (c .before .before .if1 .left)) (c .match .keys12)
+
 alone-requires-9 : tie.Need-alone-requires-9
 alone-requires-9 c κs = search needs
+
+mark-requires : tie.Need-mark-requires
+unfolding kindByte fieldsOf end width size
+mark-requires c κs =
+    let w = c .before .before .before in
+    kind-length K13 (w .before .before .args .b .now) (sym (w .well-formed .ensures) ∙ not-false _ (c .before .before .if1 .left)) (c .match .keys13)
+
+alone-requires-10 : tie.Need-alone-requires-10
+alone-requires-10 c κs = search needs
+
+alone-requires-11 : tie.Need-alone-requires-11
+alone-requires-11 c κs = search needs
 
 returns-2 : tie.Need-returns-2
 unfolding toCommands kindByte fieldsOf commandOf allValues valueOf plainValue width size
@@ -186,8 +204,24 @@ returns-12 : tie.Need-returns-12
 returns-12 c = search needs
 
 returns-13 : tie.Need-returns-13
-unfolding kindByte kinds kindsAt Rest
+unfolding toCommands kindByte fieldsOf commandOf allValues valueOf plainValue width size
 returns-13 c =
+    let w = c .before .before .before .before .before in
+    let b = w .before .before .args .b .now in
+    ordered-is (c .alone9 .result) _ (c .alone9 .ensures ∙ c .before .letters .ensures)
+    ∙ sym (rw (part-first 7 1 b (omega arith)) at (kind-command K0c b (sym (w .well-formed .ensures) ∙ not-false _ (c .before .before .before .before .if1 .left)) (c .before .before .match .keys12)))
+
+returns-14 : tie.Need-returns-14
+unfolding toCommands kindByte fieldsOf commandOf allValues valueOf plainValue width size
+returns-14 c =
+    let w = c .before .before .before .before .before in
+    let b = w .before .before .args .b .now in
+    ordered-is (c .alone10 .result) _ (c .alone10 .ensures ∙ c .before .mark .ensures)
+    ∙ sym (kind-command K13 b (sym (w .well-formed .ensures) ∙ not-false _ (c .before .before .before .before .if1 .left)) (c .before .before .match .keys13))
+
+returns-15 : tie.Need-returns-15
+unfolding kindByte kinds kindsAt Rest
+returns-15 c =
     let w = c .before .before .before .before in
     let b = w .before .before .args .b .now in
     let none = kind-none b (rest-none (Unit {0}) kinds (getD b 0 0) (c .before .match .rest) .1) in
@@ -219,7 +253,11 @@ parse-spec =
     opening-requires
     alone-requires-8
     search-requires
+    letters-requires
     alone-requires-9
+    mark-requires
+    alone-requires-10
+    alone-requires-11
     returns-2
     returns-3
     returns-4
@@ -231,4 +269,6 @@ parse-spec =
     returns-10
     returns-11
     returns-12
-    returns-13)
+    returns-13
+    returns-14
+    returns-15)
