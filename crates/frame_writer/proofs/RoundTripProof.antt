@@ -17,7 +17,7 @@ use Rattle.frame.specs.Frame.{isFrame, frameOf, commandsOf, given, commandFrame
 use Rattle.frame.specs.Filled.{Filled}
 use Rattle.frame.proofs.OneToOneProof.{carries, carried, one-to-one}
 use Rattle.command.specs.declared.Command.{Command}
-use Rattle.command.specs.declared.Command.the-variants.{Nothing, Bank, Branch, Funding, Withdrawal, BankLimits, Payment, Change, Deletion, Query, Opening, Search}
+use Rattle.command.specs.declared.Command.the-variants.{Nothing, Bank, Branch, Funding, Withdrawal, BankLimits, Payment, Change, Deletion, Query, Opening, Search, Letters, Mark}
 use Rattle.command.specs.declared.Order.{Order}
 use Rattle.command.specs.View.{toCommands, ordered}
 use Rattle.frame_writer.specs.RoundTrip.{RoundTrip}
@@ -41,6 +41,8 @@ at-most-one (Deletion h u) id a t v = inr (_, refl)
 at-most-one (Query h n) id a t v = inr (_, refl)
 at-most-one (Opening d) id a t v = inr (_, refl)
 at-most-one (Search h n) id a t v = inr (_, refl)
+at-most-one (Letters c l) id a t v = inr (_, refl)
+at-most-one (Mark c) id a t v = inr (_, refl)
 
 ordered-one : (o : Order) → AtMostOne (ordered o)
 unfolding ordered

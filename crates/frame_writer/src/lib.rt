@@ -17,6 +17,7 @@ use octet_writer::put_byte;
 use octet_writer::put_i64;
 use octet_writer::put_u32;
 use rules::is_code;
+use rules::is_letters;
 use rules::is_method;
 
 // 01: code. Like the others below, it writes the frame, or refuses a command that is out of range.
@@ -117,6 +118,33 @@ fn write_opening(day: u32, frame: &mut [u8]) -> usize
     5
 }
 
+// 0c: code, letters.
+fn write_letters(code: u32, letters: u8, frame: &mut [u8]) -> usize
+    requires { ⌜ 352 ≤ length (now frame) ⌝ }
+    ensures { λ r. ⌜ Filled (commandFrame (Rule.Letters code letters ∷ [])) (now (frame .entry)) (now (frame .exit)) r ⌝ }
+{
+    if !(is_code(code) & is_letters(letters)) {
+        return 0;
+    }
+    put_byte(frame, 0, 12);
+    put_code(frame, 1, code);
+    put_byte(frame, 7, letters);
+    8
+}
+
+// 13: code.
+fn write_mark(code: u32, frame: &mut [u8]) -> usize
+    requires { ⌜ 352 ≤ length (now frame) ⌝ }
+    ensures { λ r. ⌜ Filled (commandFrame (Rule.Mark code ∷ [])) (now (frame .entry)) (now (frame .exit)) r ⌝ }
+{
+    if !is_code(code) {
+        return 0;
+    }
+    put_byte(frame, 0, 19);
+    put_code(frame, 1, code);
+    7
+}
+
 // Writes the frame of an order's command from byte 0 on and returns its length. Where the command is none or out of range, or the buffer has under 352
 // bytes, it returns 0 and leaves the buffer as it was.
 pub fn write_frame(o: Order, frame: &mut [u8]) -> usize
@@ -145,5 +173,7 @@ pub fn write_frame(o: Order, frame: &mut [u8]) -> usize
         Command::Query(h, n) => write_query(h, n, id, accounts, frame),
         Command::Opening(day) => write_opening(day, frame),
         Command::Search(h, n) => write_search(h, n, id, accounts, frame),
+        Command::Letters(code, letters) => write_letters(code, letters, frame),
+        Command::Mark(code) => write_mark(code, frame),
     }
 }

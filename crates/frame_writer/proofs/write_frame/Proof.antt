@@ -87,6 +87,18 @@ enum-known-command-11 c = search needs
 write-search-requires : tie.Need-write-search-requires
 write-search-requires c κs = search needs
 
+enum-known-command-12 : tie.Need-enum-known-command-12
+enum-known-command-12 c = search needs
+
+write-letters-requires : tie.Need-write-letters-requires
+write-letters-requires c κs = search needs
+
+enum-known-command-13 : tie.Need-enum-known-command-13
+enum-known-command-13 c = search needs
+
+write-mark-requires : tie.Need-write-mark-requires
+write-mark-requires c κs = search needs
+
 returns-2 : tie.Need-returns-2
 unfolding toCommands
 returns-2 c =
@@ -263,6 +275,36 @@ returns-13 c =
     (ordered-is (s .args .o) _ (k .command11 .given .1))
     (w .write-search .ensures)
 
+same-length-12 : tie.Need-same-length-12
+same-length-12 c = search needs
+
+returns-14 : tie.Need-returns-14
+unfolding toCommands
+returns-14 c =
+    let w = c .before .before in
+    let k = w .before .before .before in
+    let x = k .command12 .given .0 in
+    let i = k .before .before .before .before .before .before in
+    let s = i .before .before in
+    with-room (ordered (s .args .o)) _ (s .args .frame .now) _ _ (omega (arith, i .if1 .left))
+    (ordered-is (s .args .o) _ (k .command12 .given .1))
+    (w .write-letters .ensures)
+
+same-length-13 : tie.Need-same-length-13
+same-length-13 c = search needs
+
+returns-15 : tie.Need-returns-15
+unfolding toCommands
+returns-15 c =
+    let w = c .before .before in
+    let k = w .before .before .before in
+    let x = k .command13 .given .0 in
+    let i = k .before .before .before .before .before .before in
+    let s = i .before .before in
+    with-room (ordered (s .args .o)) _ (s .args .frame .now) _ _ (omega (arith, i .if1 .left))
+    (ordered-is (s .args .o) _ (k .command13 .given .1))
+    (w .write-mark .ensures)
+
 pub write-frame-spec : {M : Type 1} → statement M
 write-frame-spec =
     tie.close
@@ -291,6 +333,10 @@ write-frame-spec =
     write-opening-requires
     enum-known-command-11
     write-search-requires
+    enum-known-command-12
+    write-letters-requires
+    enum-known-command-13
+    write-mark-requires
     returns-2
     same-length
     returns-3
@@ -313,4 +359,8 @@ write-frame-spec =
     same-length-10
     returns-12
     same-length-11
-    returns-13)
+    returns-13
+    same-length-12
+    returns-14
+    same-length-13
+    returns-15)
