@@ -10,6 +10,8 @@ use call_day::open;
 use call_deletion::deletion;
 use call_funds::fund;
 use call_funds::withdraw;
+use call_letters::mark_bank;
+use call_letters::set_letters;
 use call_payment::pay;
 use call_query::query;
 use call_search::search;
@@ -109,5 +111,7 @@ pub fn step(
             search(t, ids, days, used, h, id, accounts, n, report),
             t,
         ),
+        Command::Letters(c, l) => on_table(set_letters(t, c, l), used),
+        Command::Mark(c) => on_table(mark_bank(t, c), used),
     }
 }

@@ -17,7 +17,7 @@ use Rattle.frame.specs.Field.{allValues}
 use Rattle.frame.specs.Frame.{kindByte, fieldsOf, isFrame, kindOf, commandsOf}
 use Rattle.frame.proofs.Commands.{Filled, values-back, kind-of-byte}
 use Rattle.command.specs.declared.Command.{Command}
-use Rattle.command.specs.declared.Command.the-variants.{Nothing, Bank, Branch, Funding, Withdrawal, BankLimits, Payment, Change, Deletion, Query, Opening, Search}
+use Rattle.command.specs.declared.Command.the-variants.{Nothing, Bank, Branch, Funding, Withdrawal, BankLimits, Payment, Change, Deletion, Query, Opening, Search, Letters, Mark}
 use Rattle.command.specs.declared.Order.{Order}
 use Rattle.command.specs.View.{toCommands, ordered}
 use Rattle.command.proofs.Command.{the-type}
@@ -28,8 +28,11 @@ unfoldable first-kind : List Rule.Command → ℕ
 first-kind [] = 0
 first-kind (c ∷ cs) = kindByte (kindOf c)
 
--- the program's commands are numbered by their kinds
-numbered : (c : Command) (id a t : List ℕ) (v : List ℤ) → tagOf the-type c ≡ first-kind (toCommands c id a t v)
+-- the kinds of the program's commands, by the numbers of the variants
+abbrev pub kindAt : ℕ → ℕ
+kindAt n = getD (0 ∷ 1 ∷ 2 ∷ 3 ∷ 4 ∷ 5 ∷ 6 ∷ 7 ∷ 8 ∷ 9 ∷ 10 ∷ 11 ∷ 12 ∷ 19 ∷ []) n 0
+
+numbered : (c : Command) (id a t : List ℕ) (v : List ℤ) → kindAt (tagOf the-type c) ≡ first-kind (toCommands c id a t v)
 unfolding first-kind toCommands kindByte kindOf
 numbered Nothing id a t v = refl
 numbered (Bank c) id a t v = refl
@@ -43,6 +46,8 @@ numbered (Deletion g k) id a t v = refl
 numbered (Query g n) id a t v = refl
 numbered (Opening d) id a t v = refl
 numbered (Search g n) id a t v = refl
+numbered (Letters c l) id a t v = refl
+numbered (Mark c) id a t v = refl
 
 -- a number that passes a test is none of those that fail it
 no-key : (q : ℕ → Bool) (ks : List ℕ) (x : ℕ) → every (λ k. not (q k)) ks ≡ true → q x ≡ true → T (not (hasKey ks x))
@@ -55,8 +60,8 @@ no-key q (k ∷ ks) x h e = let f = both (not (q k)) (every (λ k. not (q k)) ks
     go false f n r = r
 
 module _ (b : List ℕ) (o : Order) (h : isFrame b ≡ true) (p : ordered o ≡ commandsOf b) where
-  -- the order that was parsed of a frame is numbered by the frame's kind
-  held : tagOf the-type (o .command) ≡ getD b 0 0
+  -- the order that was parsed of a frame is of the frame's kind
+  held : kindAt (tagOf the-type (o .command)) ≡ getD b 0 0
   unfolding first-kind ordered isFrame
   held =
       let r = kind-of-byte (getD b 0 0) b 1 h in
@@ -66,5 +71,5 @@ module _ (b : List ℕ) (o : Order) (h : isFrame b ≡ true) (p : ordered o ≡ 
       ∙ sym (r .1)
 
   -- where its kind passes a test, it is none of the orders whose kinds fail it
-  pub others : (q : ℕ → Bool) (ks : List ℕ) → every (λ k. not (q k)) ks ≡ true → q (getD b 0 0) ≡ true → OneOf ks (tagOf the-type (o .command)) → ⊥
-  others q ks f e k = miss ks (tagOf the-type (o .command)) (no-key q ks (tagOf the-type (o .command)) f (ap q held ∙ e)) k
+  pub others : (q : ℕ → Bool) (ks : List ℕ) → every (λ k. not (q (kindAt k))) ks ≡ true → q (getD b 0 0) ≡ true → OneOf ks (tagOf the-type (o .command)) → ⊥
+  others q ks f e k = miss ks (tagOf the-type (o .command)) (no-key (λ k. q (kindAt k)) ks (tagOf the-type (o .command)) f (ap q held ∙ e)) k

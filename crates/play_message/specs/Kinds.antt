@@ -9,4 +9,4 @@ inquires k = eqb k 9 || eqb k 11
 
 -- those whose command changes one account at most, and neither opens nor reports
 abbrev pub amendsOne : ℕ → Bool
-amendsOne k = ((eqb k 3 || eqb k 4) || eqb k 5) || eqb k 8
+amendsOne k = ((((eqb k 3 || eqb k 4) || eqb k 5) || eqb k 8) || eqb k 12) || eqb k 19

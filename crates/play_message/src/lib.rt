@@ -15,6 +15,8 @@ use call_change::judge;
 use call_deletion::limit_deleted;
 use call_funds::funded;
 use call_funds::withdrawn;
+use call_letters::bank_marked;
+use call_letters::lettered;
 use call_query::query;
 use call_search::search;
 use command::Command;
@@ -86,7 +88,7 @@ pub fn plan(
 pub fn amends_one(kind: u8) -> bool
     ensures { λ r. ⌜ r ≡ amendsOne kind ⌝ }
 {
-    (kind == 3) | (kind == 4) | (kind == 5) | (kind == 8)
+    (kind == 3) | (kind == 4) | (kind == 5) | (kind == 8) | (kind == 12) | (kind == 19)
 }
 
 // A call on the table alone: the book stays.
@@ -123,6 +125,8 @@ pub fn amend(
         Command::Withdrawal(c, a) => entered(withdrawn(t, c, a), used),
         Command::BankLimits(c, l, p) => entered(bank_limited(t, c, l, p), used),
         Command::Deletion(h, kind) => limit_deleted(t, ids, days, used, h, id, accounts, kind),
+        Command::Letters(c, l) => entered(lettered(t, c, l), used),
+        Command::Mark(c) => entered(bank_marked(t, c), used),
         _ => Entered {
             answer: 1,
             used: used,

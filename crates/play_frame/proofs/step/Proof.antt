@@ -140,6 +140,30 @@ search-requires c κs = c .before .before .before .before .before .before .befor
 on-report-requires-2 : tie.Need-on-report-requires-2
 on-report-requires-2 c κs = search needs
 
+enum-known-command-12 : tie.Need-enum-known-command-12
+enum-known-command-12 c = search needs
+
+set-letters-requires : tie.Need-set-letters-requires
+set-letters-requires c κs =
+    let s = c .before .before .before .before .before .before .before .before .before .before in
+    let a = s .args in
+    good-table (a .t) (a .ids .now) (a .days .now) (a .used) (s .pre)
+
+on-table-requires-7 : tie.Need-on-table-requires-7
+on-table-requires-7 c κs = search needs
+
+enum-known-command-13 : tie.Need-enum-known-command-13
+enum-known-command-13 c = search needs
+
+mark-bank-requires : tie.Need-mark-bank-requires
+mark-bank-requires c κs =
+    let s = c .before .before .before .before .before .before .before .before .before .before in
+    let a = s .args in
+    good-table (a .t) (a .ids .now) (a .days .now) (a .used) (s .pre)
+
+on-table-requires-8 : tie.Need-on-table-requires-8
+on-table-requires-8 c κs = search needs
+
 returns : tie.Need-returns
 unfolding toCommands
 returns c =
@@ -264,6 +288,24 @@ returns-12 c =
     by-report (commandsOf (a .frame .now)) (a .t) (a .ids .now) (a .days .now) (a .used) (a .report .now) (c .on-report2 .result) _ (q .result .answer) (q .result .used) (q .result .«report_len») _ _ _
     (sym (p .ensures) ∙ ordered-is (p .result) _ (c .before .before .before .before .before .before .before .before .command11 .given .1)) (q .ensures) (c .on-report2 .ensures)
 
+returns-13 : tie.Need-returns-13
+unfolding toCommands
+returns-13 c =
+    let s = c .before .before .before .before .before .before .before .before .before .before .before .before in
+    let a = s .args in
+    let p = c .before .before .before .before .before .before .before .before .before .parse in
+    by-table (commandsOf (a .frame .now)) (a .t) (a .ids .now) (a .days .now) (a .used) (a .report .now) (c .on-table7 .result) _ (c .before .set-letters .result)
+    (sym (p .ensures) ∙ ordered-is (p .result) _ (c .before .before .before .command12 .given .1)) tt tt (s .pre) (c .before .set-letters .ensures) (c .on-table7 .ensures)
+
+returns-14 : tie.Need-returns-14
+unfolding toCommands
+returns-14 c =
+    let s = c .before .before .before .before .before .before .before .before .before .before .before .before in
+    let a = s .args in
+    let p = c .before .before .before .before .before .before .before .before .before .parse in
+    by-table (commandsOf (a .frame .now)) (a .t) (a .ids .now) (a .days .now) (a .used) (a .report .now) (c .on-table8 .result) _ (c .before .mark-bank .result)
+    (sym (p .ensures) ∙ ordered-is (p .result) _ (c .before .before .before .command13 .given .1)) tt tt (s .pre) (c .before .mark-bank .ensures) (c .on-table8 .ensures)
+
 pub step-spec : {M : Type 1} → statement M
 step-spec =
     tie.close
@@ -304,6 +346,12 @@ step-spec =
     enum-known-command-11
     search-requires
     on-report-requires-2
+    enum-known-command-12
+    set-letters-requires
+    on-table-requires-7
+    enum-known-command-13
+    mark-bank-requires
+    on-table-requires-8
     returns
     returns-2
     returns-3
@@ -317,4 +365,6 @@ step-spec =
     returns-10
     returns-11
     same-length-2
-    returns-12)
+    returns-12
+    returns-13
+    returns-14)

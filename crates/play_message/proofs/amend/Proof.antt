@@ -58,6 +58,24 @@ enum-known-command-4 c = search needs
 limit-deleted-requires : tie.Need-limit-deleted-requires
 limit-deleted-requires c κs = c .before .before .before .before .before .before .before .before .before .pre .2
 
+enum-known-command-5 : tie.Need-enum-known-command-5
+enum-known-command-5 c = search needs
+
+lettered-requires : tie.Need-lettered-requires
+lettered-requires c κs = good (c .before .before .before .before .before .before .before)
+
+entered-requires-4 : tie.Need-entered-requires-4
+entered-requires-4 c κs = search needs
+
+enum-known-command-6 : tie.Need-enum-known-command-6
+enum-known-command-6 c = search needs
+
+bank-marked-requires : tie.Need-bank-marked-requires
+bank-marked-requires c κs = good (c .before .before .before .before .before .before .before)
+
+entered-requires-5 : tie.Need-entered-requires-5
+entered-requires-5 c κs = search needs
+
 opened-requires : tie.Need-opened-requires
 opened-requires c κs = search needs
 
@@ -104,11 +122,29 @@ returns-4 c =
     (sym (p .ensures) ∙ ordered-is (p .result) _ (c .before .before .before .before .command4 .given .1)) tt _ _ (c .limit-deleted .ensures)
 
 returns-5 : tie.Need-returns-5
-unfolding every
+unfolding toCommands
 returns-5 c =
+    let s = c .before .before .before .before .before .before .before .before .before in
+    let a = s .args in
+    let p = c .before .before .before .before .before .before .before .parse in
+    at-table (commandsOf (a .frame .now)) (a .t) (a .ids .now) (a .days .now) (a .used) (c .entered4 .result) _
+    (sym (p .ensures) ∙ ordered-is (p .result) _ (c .before .before .before .command5 .given .1)) tt tt (s .pre .2) (c .before .lettered .result) (c .before .lettered .ensures) (c .entered4 .ensures)
+
+returns-6 : tie.Need-returns-6
+unfolding toCommands
+returns-6 c =
+    let s = c .before .before .before .before .before .before .before .before .before in
+    let a = s .args in
+    let p = c .before .before .before .before .before .before .before .parse in
+    at-table (commandsOf (a .frame .now)) (a .t) (a .ids .now) (a .days .now) (a .used) (c .entered5 .result) _
+    (sym (p .ensures) ∙ ordered-is (p .result) _ (c .before .before .before .command6 .given .1)) tt tt (s .pre .2) (c .before .bank-marked .result) (c .before .bank-marked .ensures) (c .entered5 .ensures)
+
+returns-7 : tie.Need-returns-7
+unfolding every
+returns-7 c =
     let s = c .before .before .before .before .before .before in
     let p = c .before .before .before .before .parse in
-    absurd (others (s .args .frame .now) (p .result) (s .pre .0) (p .ensures) amendsOne (0 ∷ 1 ∷ 2 ∷ 6 ∷ 7 ∷ 9 ∷ 10 ∷ 11 ∷ []) refl (s .pre .1) (c .before .match .keys5))
+    absurd (others (s .args .frame .now) (p .result) (s .pre .0) (p .ensures) amendsOne (0 ∷ 1 ∷ 2 ∷ 6 ∷ 7 ∷ 9 ∷ 10 ∷ 11 ∷ []) refl (s .pre .1) (c .before .match .keys7))
 
 pub amend-spec : {M : Type 1} → statement M
 amend-spec =
@@ -126,9 +162,17 @@ amend-spec =
     entered-requires-3
     enum-known-command-4
     limit-deleted-requires
+    enum-known-command-5
+    lettered-requires
+    entered-requires-4
+    enum-known-command-6
+    bank-marked-requires
+    entered-requires-5
     opened-requires
     returns
     returns-2
     returns-3
     returns-4
-    returns-5)
+    returns-5
+    returns-6
+    returns-7)

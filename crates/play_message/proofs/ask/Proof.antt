@@ -47,7 +47,7 @@ unfolding every
 returns-3 c =
     let s = c .before .before .before .before .before .before in
     let p = c .before .before .before .parse in
-    absurd (others (s .args .frame .now) (p .result) (s .pre .0) (p .ensures) inquires (0 ∷ 1 ∷ 2 ∷ 3 ∷ 4 ∷ 5 ∷ 6 ∷ 7 ∷ 8 ∷ 10 ∷ []) refl (s .pre .1) (c .match .keys3))
+    absurd (others (s .args .frame .now) (p .result) (s .pre .0) (p .ensures) inquires (0 ∷ 1 ∷ 2 ∷ 3 ∷ 4 ∷ 5 ∷ 6 ∷ 7 ∷ 8 ∷ 10 ∷ 12 ∷ 13 ∷ []) refl (s .pre .1) (c .match .keys3))
 
 pub ask-spec : {M : Type 1} → statement M
 ask-spec =

@@ -44,7 +44,7 @@ returns-2 c =
     let s = c .before .before .before .before .before .before .before .before .before .before in
     let p = c .before .before .before .before .before .before .before .before .parse in
     absurd
-    (others (s .args .frame .now) (p .result) (s .pre .0) (p .ensures) (λ k. eqb k 7) (0 ∷ 1 ∷ 2 ∷ 3 ∷ 4 ∷ 5 ∷ 6 ∷ 8 ∷ 9 ∷ 10 ∷ 11 ∷ []) refl (eq-eqb _ 7 (s .pre .1)) (c .before .before .before .match .keys2))
+    (others (s .args .frame .now) (p .result) (s .pre .0) (p .ensures) (λ k. eqb k 7) (0 ∷ 1 ∷ 2 ∷ 3 ∷ 4 ∷ 5 ∷ 6 ∷ 8 ∷ 9 ∷ 10 ∷ 11 ∷ 12 ∷ 13 ∷ []) refl (eq-eqb _ 7 (s .pre .1)) (c .before .before .before .match .keys2))
 
 pub plan-spec : {M : Type 1} → statement M
 plan-spec = tie.close (tie.spec parse-requires enum-known-command judge-requires records-requires returns returns-2)
