@@ -1,5 +1,7 @@
 //! Accounts, their turnovers and their limits.
 
+use crate::letters::Letters;
+
 /// The highest amount, and the highest limit on either side of 0.
 pub const TOP_VALUE: i64 = 1_000_000_000_000_000;
 /// The highest turnover.
@@ -81,6 +83,8 @@ pub struct Account {
     pub methods: [Method; 2],
     /// Moment of the last accepted change or deletion naming this branch.
     pub moment: Option<Moment>,
+    /// The letters set on this account itself.
+    pub letters: Letters,
 }
 
 impl Account {
@@ -93,6 +97,7 @@ impl Account {
             limits: [Limit::Value(0); 2],
             methods: [Method::Keep; 2],
             moment: None,
+            letters: Letters::default(),
         }
     }
 

@@ -26,6 +26,8 @@ pub enum Refusal {
     NotABranchOfSender = 20,
     NoIdFound = 21,
     BookFull = 22,
+    Blocked = 25,
+    BankMarked = 26,
 }
 
 /// Accepted, or the first check that failed.

@@ -3,6 +3,7 @@
 use crate::account::{Method, Moment};
 use crate::book::Id;
 use crate::frame;
+use crate::letters::Letters;
 
 /// The header of a message.
 #[derive(Clone, Copy, Debug)]
@@ -127,6 +128,13 @@ pub enum Command<'a> {
         header: Header,
         conditions: Vec<Condition<'a>>,
     },
+    Letters {
+        code: u32,
+        letters: Letters,
+    },
+    Mark {
+        code: u32,
+    },
 }
 
 impl<'a> Command<'a> {
@@ -182,6 +190,13 @@ impl<'a> Command<'a> {
                 header: fields.header()?,
                 conditions: fields.conditions()?,
             },
+            0x0c => Command::Letters {
+                code: fields.code()?,
+                letters: fields.letters()?,
+            },
+            0x13 => Command::Mark {
+                code: fields.code()?,
+            },
             _ => return None,
         };
         fields.rest.is_empty().then_some(command)
@@ -228,6 +243,10 @@ impl<'a> Fields<'a> {
 
     fn method(&mut self) -> Option<Method> {
         self.byte().and_then(Method::from_byte)
+    }
+
+    fn letters(&mut self) -> Option<Letters> {
+        self.byte().and_then(Letters::from_byte)
     }
 
     fn transfer(&mut self) -> Option<Transfer> {

@@ -6,6 +6,7 @@ use crate::answer::{number, require, Answer, Refusal};
 use crate::book::Book;
 use crate::command::{Command, Transfer};
 use crate::frame::{self, LONGEST_FRAME};
+use crate::letters::Letters;
 use crate::report;
 
 pub const MOST_ACCOUNTS: usize = 64;
@@ -18,6 +19,8 @@ pub struct Ledger {
     pub(crate) accounts: Vec<Account>,
     /// For each code its place in the table.
     places: Box<[u8]>,
+    /// Place of the bank marked as the central bank.
+    central: Option<usize>,
     pub(crate) day: u32,
     pub(crate) book: Book,
     /// The report of the query or search just accepted.
@@ -35,6 +38,7 @@ impl Ledger {
         Ledger {
             accounts: Vec::with_capacity(MOST_ACCOUNTS),
             places: vec![NO_PLACE; CODES].into_boxed_slice(),
+            central: None,
             day: 0,
             book: Book::default(),
             report: Vec::with_capacity(report::LONGEST_REPORT),
@@ -96,6 +100,8 @@ impl Ledger {
                 ref header,
                 ref conditions,
             } => self.search(header, conditions),
+            Command::Letters { code, letters } => self.set_letters(code, letters),
+            Command::Mark { code } => self.mark(code),
         }
     }
 
@@ -176,6 +182,7 @@ impl Ledger {
         let receiver = self.find(receiver)?;
         require(sender != receiver, Refusal::SenderIsReceiver)?;
         require_amount(amount)?;
+        self.check_letters(transfer, sender, receiver)?;
         let (payer, sent, received) = match transfer {
             Transfer::Credit => (sender, ICDT, RCDT),
             Transfer::Debit => (receiver, IDDT, RDDT),
@@ -195,6 +202,20 @@ impl Ledger {
             }
         }
         Ok(())
+    }
+
+    /// Sender and receiver are those that the payment names, whoever pays.
+    fn check_letters(&self, transfer: Transfer, sender: usize, receiver: usize) -> Answer {
+        let is_from_central = self.central == Some(self.bank_of(sender));
+        let is_blocked = self.letters_over(sender).block_sending(transfer)
+            || self.letters_over(receiver).block_receiving(is_from_central);
+        require(!is_blocked, Refusal::Blocked)
+    }
+
+    /// The letters that hold for an account: its own and its bank's.
+    fn letters_over(&self, place: usize) -> Letters {
+        let bank = &self.accounts[self.bank_of(place)];
+        self.accounts[place].letters.with(bank.letters)
     }
 
     /// The payer's bank comes first, then the payer itself if it is a branch.
@@ -221,6 +242,21 @@ impl Ledger {
         self.accounts.iter_mut().for_each(Account::open_day);
         self.book.leave_before(self.day);
         self.day = day;
+        Ok(())
+    }
+
+    /// Sets all five letters anew.
+    fn set_letters(&mut self, code: u32, letters: Letters) -> Answer {
+        let place = self.find(code)?;
+        self.accounts[place].letters = letters;
+        Ok(())
+    }
+
+    /// Marks the central bank; a mark is never taken off.
+    fn mark(&mut self, code: u32) -> Answer {
+        let bank = self.find_bank(code)?;
+        require(self.central.is_none(), Refusal::BankMarked)?;
+        self.central = Some(bank);
         Ok(())
     }
 }

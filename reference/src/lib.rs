@@ -11,6 +11,7 @@ pub mod examples;
 pub mod frame;
 pub mod generate;
 pub mod ledger;
+pub mod letters;
 pub mod message;
 pub mod report;
 pub mod stream;

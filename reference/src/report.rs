@@ -2,14 +2,17 @@
 
 use crate::account::{Account, Limit, ICDT, LPO, LTK};
 use crate::ledger::MOST_ACCOUNTS;
+use crate::letters::Letter;
 use crate::write;
 
 /// Bytes of the block of an account in a query's report: 0 and two limits.
 pub const LIMITS_BLOCK: usize = 57;
-/// The same in a search's: 0, id, state and four turnovers.
-pub const ACCOUNT_BLOCK: usize = 51;
-/// A count and the blocks of all accounts; 16 blocks of a query are fewer bytes.
-pub const LONGEST_REPORT: usize = 1 + MOST_ACCOUNTS * ACCOUNT_BLOCK;
+/// The same in a search's up to the letters: 0, id, state, four turnovers and
+/// the number of letters.
+pub const ACCOUNT_BLOCK: usize = 52;
+/// A count and the blocks of all accounts, all letters set; 16 blocks of a
+/// query are fewer bytes.
+pub const LONGEST_REPORT: usize = 1 + MOST_ACCOUNTS * (ACCOUNT_BLOCK + Letter::ALL.len());
 
 /// How far a limit in use is used.
 struct Use {
@@ -50,6 +53,8 @@ pub fn write_account(account: &Account, report: &mut Vec<u8>) {
     for turnover in account.turnovers {
         report.extend(turnover.to_be_bytes());
     }
+    report.push(account.letters.count());
+    report.extend(account.letters.iter().map(Letter::character));
 }
 
 fn write_limit(limit: Limit, report: &mut Vec<u8>, use_of: impl Fn(i64) -> Option<Use>) {

@@ -46,7 +46,8 @@ impl Tally {
                 }
                 _ if is_search => {
                     self.shown += 1;
-                    ACCOUNT_BLOCK
+                    let letters = blocks.get(ACCOUNT_BLOCK - 1).map_or(0, value);
+                    ACCOUNT_BLOCK + usize::from(letters)
                 }
                 _ => LIMITS_BLOCK,
             };

@@ -17,6 +17,13 @@ pub const EQUAL: u8 = 1;
 pub const CONTAINS: u8 = 2;
 pub const LACKS: u8 = 3;
 
+/// The letters, as bits.
+pub const A: u8 = 1;
+pub const B: u8 = 2;
+pub const N: u8 = 4;
+pub const S: u8 = 8;
+pub const R: u8 = 16;
+
 /// One item of a change.
 #[derive(Clone, Copy, Debug)]
 pub struct ChangeItem {
@@ -97,6 +104,14 @@ pub fn search(header: &Header, conditions: &[Sought]) -> Vec<u8> {
         bytes.extend(&condition.text);
     }
     bytes
+}
+
+pub fn letters(code: u32, bits: u8) -> Vec<u8> {
+    frame(0x0c, &[&digits(code), &[bits]])
+}
+
+pub fn mark(code: u32) -> Vec<u8> {
+    frame(0x13, &[&digits(code)])
 }
 
 /// The frame as a line, without its end.

@@ -3,8 +3,8 @@
 use reference::account::Moment;
 use reference::command::Header;
 use reference::write::{
-    account_id, bank, branch, change, day_opening, funding, line, payment, query, search,
-    ChangeItem, Sought, CONTAINS, CREDIT, DEBIT, EQUAL, LACKS, LPO_TYPE, LTK_TYPE,
+    account_id, bank, branch, change, day_opening, funding, letters, line, payment, query, search,
+    ChangeItem, Sought, A, B, CONTAINS, CREDIT, DEBIT, EQUAL, LACKS, LPO_TYPE, LTK_TYPE, N, R, S,
 };
 use reference::Ledger;
 
@@ -128,20 +128,24 @@ fn a_refused_query_has_no_report() {
 }
 
 #[test]
-fn a_search_shows_id_state_and_turnovers() {
+fn a_search_shows_id_state_turnovers_and_letters() {
     let mut ledger = group(-100, 70, [0, 0]);
     play(&mut ledger, &bank(777_777));
     play(&mut ledger, &payment(CREDIT, BRANCH, BANK, 30));
     play(&mut ledger, &payment(DEBIT, 777_777, BRANCH, 5));
+    play(&mut ledger, &letters(BRANCH, R | S | N));
+    play(&mut ledger, &letters(777_777, A));
     let conditions = [sought(CONTAINS, b"8001"), sought(LACKS, b"8001")];
     let asked = search(&header(BANK, 2), &conditions);
     let bank = [
         "00 31554148383838383838",
         "00000000000003e3 000000000000001e 000000000000001e 0000000000000000 0000000000000005",
+        "00",
     ];
     let branch = [
         "00 31554148383838303031",
         "ffffffffffffffdd 000000000000001e 0000000000000000 0000000000000000 0000000000000005",
+        "03 4e5352",
     ];
     let expected = answer(&["00 03", &bank.concat(), &branch.concat(), "18"]);
     assert_eq!(play(&mut ledger, &asked), expected);
@@ -155,8 +159,46 @@ fn a_branch_sees_itself_alone() {
     let zeros = "0000000000000000".repeat(5);
     assert_eq!(
         play(&mut ledger, &asked),
-        answer(&["00 02", "18", branch, &zeros])
+        answer(&["00 02", "18", branch, &zeros, "00"])
     );
+}
+
+#[test]
+fn each_account_shows_its_own_letters_in_their_order() {
+    let mut ledger = group(0, 0, [0, 0]);
+    let zeros = "0000000000000000".repeat(5);
+    let start = ["00000000000003e8", &"0000000000000000".repeat(4)].concat();
+    let shown = [
+        (0, "00"),
+        (A, "01 41"),
+        (B, "01 42"),
+        (N, "01 4e"),
+        (S, "01 53"),
+        (R, "01 52"),
+        (B | S | R, "03 42 53 52"),
+        (A | B | N | S | R, "05 41 42 4e 53 52"),
+    ];
+    for (second, (bits, tail)) in (2..).zip(shown) {
+        assert_eq!(play(&mut ledger, &letters(BANK, bits)), "00\n");
+        assert_eq!(play(&mut ledger, &letters(BRANCH, 31 - bits)), "00\n");
+        let asked = search(&header(BANK, second), &[sought(EQUAL, b"1UAH888888")]);
+        let expected = answer(&["00 01", "00 31554148383838383838", &start, tail]);
+        assert_eq!(play(&mut ledger, &asked), expected);
+    }
+    assert_eq!(play(&mut ledger, &letters(BRANCH, S)), "00\n");
+    let asked = search(&header(BRANCH, 0), &[sought(CONTAINS, b"888")]);
+    let branch = "00 31554148383838303031";
+    let expected = answer(&["00 02", "18", branch, &zeros, "01 53"]);
+    assert_eq!(play(&mut ledger, &asked), expected);
+}
+
+#[test]
+fn a_query_shows_no_letters() {
+    let mut ledger = group(0, 0, [0, 0]);
+    play(&mut ledger, &letters(BANK, A | B | N | S | R));
+    let asked = query(&header(BANK, 2), &[account_id(BANK)]);
+    let expected = answer(&["00 01", "00", ZERO, ZERO]);
+    assert_eq!(play(&mut ledger, &asked), expected);
 }
 
 #[test]
@@ -179,14 +221,17 @@ fn a_refused_search_has_no_report() {
 }
 
 #[test]
-fn the_longest_report_has_64_accounts() {
+fn the_longest_report_has_64_accounts_with_five_letters() {
     let mut ledger = Ledger::new();
     play(&mut ledger, &bank(BANK));
     for code in 0..63 {
         assert_eq!(play(&mut ledger, &branch(code, BANK, [0, 0])), "00\n");
     }
+    for code in (0..63).chain([BANK]) {
+        assert_eq!(play(&mut ledger, &letters(code, 31)), "00\n");
+    }
     let asked = search(&header(BANK, 1), &[sought(CONTAINS, b"1UAH")]);
     let said = play(&mut ledger, &asked);
     assert!(said.starts_with("0040"));
-    assert_eq!(said.len(), 2 + 2 * (1 + 64 * 51) + 1);
+    assert_eq!(said.len(), 2 + 2 * 3_649 + 1);
 }

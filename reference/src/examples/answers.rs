@@ -39,7 +39,7 @@ pub fn ill_formed() -> Vec<Example> {
         raw(1, "longer than any frame", vec![b'0'; 706]),
         raw(1, "far longer", vec![b'a'; 5_000]),
         raw(1, "unknown kind 00", b"00".to_vec()),
-        raw(1, "unknown kind 0c", b"0c00000001".to_vec()),
+        raw(1, "unknown kind 0d", b"0d00000001".to_vec()),
         raw(1, "a search as short as a day", b"0b00000001".to_vec()),
         raw(1, "unknown kind ff", b"ff".to_vec()),
         raw(1, "kind alone", b"01".to_vec()),

@@ -132,8 +132,8 @@ enum Shown {
 enum Block {
     Number(u8),
     Limits(Shown, Shown),
-    /// Of a search: code, state, turnovers.
-    Account(u32, i64, [i64; 4]),
+    /// Of a search: code, state, turnovers, letters.
+    Account(u32, i64, [i64; 4], &'static str),
 }
 
 impl Block {
@@ -145,11 +145,13 @@ impl Block {
                 ltk.write(report);
                 lpo.write(report);
             }
-            Block::Account(code, state, turnovers) => {
+            Block::Account(code, state, turnovers, letters) => {
                 report.push(0);
                 report.extend(write::account_id(*code));
                 report.extend(state.to_be_bytes());
                 report.extend(turnovers.iter().flat_map(|turnover| turnover.to_be_bytes()));
+                report.push(letters.len() as u8);
+                report.extend(letters.bytes());
             }
         }
     }

@@ -33,9 +33,9 @@ fn search_by(sender: u32, id: u32, conditions: &[Sought]) -> Vec<u8> {
     search(&header(sender, id, 9, 0), conditions)
 }
 
-/// An account without turnovers.
+/// An account without turnovers and letters.
 fn still(code: u32, state: i64) -> Block {
-    Block::Account(code, state, [0; 4])
+    Block::Account(code, state, [0; 4], "")
 }
 
 fn no_right() -> Block {
@@ -105,9 +105,9 @@ pub fn reports() -> Vec<Example> {
             payment(transfer, sender, receiver, amount),
         )
     };
-    let branch = || Block::Account(BRANCH, 13, [20, 30, 7, 4]);
-    let head = || Block::Account(HEAD, 999_709, [20, 30, 7, 4]);
-    let rich = || Block::Account(RICH, 999_999_999_999_000_192, [30, 20, 4, 7]);
+    let branch = || Block::Account(BRANCH, 13, [20, 30, 7, 4], "");
+    let head = || Block::Account(HEAD, 999_709, [20, 30, 7, 4], "");
+    let rich = || Block::Account(RICH, 999_999_999_999_000_192, [30, 20, 4, 7], "");
     let poor = || still(POOR, 99);
     let poor_branch = || still(POOR_BRANCH, 0);
     let found = |what, id, sender, conditions: &[Sought], blocks: &[Block]| {
