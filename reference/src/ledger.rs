@@ -63,6 +63,17 @@ impl Ledger {
         &self.accounts
     }
 
+    /// The account of a code, if there is one.
+    pub fn account(&self, code: u32) -> Option<&Account> {
+        let place = self.find(code).ok()?;
+        Some(&self.accounts[place])
+    }
+
+    /// The bank marked as the central bank.
+    pub fn central_bank(&self) -> Option<&Account> {
+        self.central.map(|place| &self.accounts[place])
+    }
+
     pub fn day(&self) -> u32 {
         self.day
     }

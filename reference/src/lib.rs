@@ -12,6 +12,7 @@ pub mod frame;
 pub mod generate;
 pub mod ledger;
 pub mod letters;
+pub mod lone_letter;
 pub mod message;
 pub mod report;
 pub mod stream;

@@ -1,52 +1,130 @@
-//! How often each answer and each block number occurs, and how often in searches.
+//! What lists reach: how often each answer and each block number occurs, how
+//! often in the later kinds, and what a letter does to payments.
 
-use crate::answer::{BLOCK_ID_UNKNOWN, BLOCK_NO_RIGHT};
+use std::collections::BTreeMap;
+
+use crate::answer::{Refusal, BLOCK_ID_UNKNOWN, BLOCK_NO_RIGHT};
+use crate::command::{Command, Transfer};
+use crate::frame::{decode, LONGEST_FRAME};
+use crate::ledger::Ledger;
+use crate::letters::Letter;
+use crate::lone_letter::Case;
 use crate::report::{ACCOUNT_BLOCK, LIMITS_BLOCK};
 
-/// Answers 0 to 22 and blocks 23 and 24.
-const NUMBERS: usize = 25;
-/// The answers that a search may get, and its block without an account.
-const OF_A_SEARCH: [usize; 9] = [0, 1, 4, 14, 16, 17, 21, 22, 24];
+/// Answers 0 to 22, blocks 23 and 24, answers 25 and 26.
+const NUMBERS: usize = 27;
+const ACCEPTED: usize = 0;
+const BLOCKED: usize = Refusal::Blocked as usize;
+const BANK_MARKED: usize = Refusal::BankMarked as usize;
+
+/// A kind that is counted by itself.
+struct Kind {
+    name: &'static str,
+    /// How its lines begin.
+    digits: &'static [u8],
+    /// The answers that it may get, and its block without an account.
+    numbers: &'static [usize],
+}
+
+const KINDS: [Kind; 3] = [
+    Kind {
+        name: "search",
+        digits: b"0b",
+        numbers: &[0, 1, 4, 14, 16, 17, 21, 22, 24],
+    },
+    Kind {
+        name: "letters",
+        digits: b"0c",
+        numbers: &[0, 1, 4],
+    },
+    Kind {
+        name: "mark",
+        digits: b"13",
+        numbers: &[0, 1, 4, 5, 26],
+    },
+];
+/// The search's place among them.
+const SEARCH: usize = 0;
+
+/// How many payments were accepted and how many blocked; credits, then debits.
+#[derive(Clone, Copy, Debug, Default)]
+pub struct Fate {
+    pub accepted: [u64; 2],
+    pub blocked: [u64; 2],
+}
 
 #[derive(Clone, Default)]
 pub struct Tally {
+    lines: u64,
     counts: [u64; NUMBERS],
-    /// The same of the lines that begin as a search does.
-    searches: [u64; NUMBERS],
-    /// Accounts in the reports of searches.
-    shown: u64,
+    kinds: [[u64; NUMBERS]; KINDS.len()],
+    /// Accounts in the reports of searches, by how many letters they show.
+    shown: [u64; 1 + Letter::ALL.len()],
+    /// Refusals to mark the marked bank again, and to mark another.
+    marked_again: [u64; 2],
+    fates: BTreeMap<Case, Fate>,
 }
 
 impl Tally {
-    /// Counts one line and its answer line, both given without their ends.
-    pub fn count(&mut self, line: &[u8], answer: &[u8]) {
+    /// Plays a list on a fresh ledger and counts each of its lines.
+    pub fn count(&mut self, list: &[u8]) {
+        let mut ledger = Ledger::new();
+        let mut answer = Vec::new();
+        for line in list.split_inclusive(|&byte| byte == b'\n') {
+            let line = line.strip_suffix(b"\n").unwrap_or(line);
+            answer.clear();
+            ledger.line(line, &mut answer);
+            self.count_line(line, &answer, &ledger);
+        }
+    }
+
+    /// Counts a line, its answer and where it has led.
+    fn count_line(&mut self, line: &[u8], answer: &[u8], ledger: &Ledger) {
         let Some((&[tens, ones], report)) = answer.split_first_chunk() else {
             return;
         };
-        let is_search = line.starts_with(b"0b");
+        let kind = KINDS.iter().position(|kind| line.starts_with(kind.digits));
         let number = usize::from(tens - b'0') * 10 + usize::from(ones - b'0');
-        self.add(is_search, number);
-        self.count_blocks(is_search, report);
+        self.lines += 1;
+        self.add(kind, number);
+        self.count_blocks(kind, report);
+        let mut buffer = [0; LONGEST_FRAME];
+        match decode(line, &mut buffer).and_then(Command::read) {
+            Some(Command::Payment {
+                transfer,
+                sender,
+                receiver,
+                ..
+            }) => self.count_payment(transfer, Case::of(ledger, sender, receiver), number),
+            Some(Command::Mark { code }) if number == BANK_MARKED => {
+                let marked = ledger.central_bank();
+                let is_other = marked.is_none_or(|bank| bank.code != code);
+                self.marked_again[usize::from(is_other)] += 1;
+            }
+            _ => {}
+        }
     }
 
-    fn add(&mut self, is_search: bool, number: usize) {
+    fn add(&mut self, kind: Option<usize>, number: usize) {
         self.counts[number] += 1;
-        self.searches[number] += u64::from(is_search);
+        if let Some(kind) = kind {
+            self.kinds[kind][number] += 1;
+        }
     }
 
     /// Walks the blocks of a report in digits.
-    fn count_blocks(&mut self, is_search: bool, digits: &[u8]) {
+    fn count_blocks(&mut self, kind: Option<usize>, digits: &[u8]) {
         let (pairs, _) = digits.as_chunks();
         let mut blocks = pairs.get(1..).unwrap_or_default();
         while let Some(number) = blocks.first().map(value) {
             let length = match number {
                 BLOCK_ID_UNKNOWN | BLOCK_NO_RIGHT => {
-                    self.add(is_search, usize::from(number));
+                    self.add(kind, usize::from(number));
                     1
                 }
-                _ if is_search => {
-                    self.shown += 1;
+                _ if kind == Some(SEARCH) => {
                     let letters = blocks.get(ACCOUNT_BLOCK - 1).map_or(0, value);
+                    self.shown[usize::from(letters)] += 1;
                     ACCOUNT_BLOCK + usize::from(letters)
                 }
                 _ => LIMITS_BLOCK,
@@ -55,11 +133,31 @@ impl Tally {
         }
     }
 
+    fn count_payment(&mut self, transfer: Transfer, case: Option<Case>, number: usize) {
+        let Some(case) = case else {
+            return;
+        };
+        let fate = self.fates.entry(case).or_default();
+        match number {
+            ACCEPTED => fate.accepted[transfer as usize] += 1,
+            BLOCKED => fate.blocked[transfer as usize] += 1,
+            _ => {}
+        }
+    }
+
     pub fn is_complete(&self) -> bool {
-        let is_reached = |&number: &usize| self.searches[number] > 0;
-        self.counts.iter().all(|&count| count > 0)
-            && OF_A_SEARCH.iter().all(is_reached)
-            && self.shown > 0
+        let is_reached = |&count: &u64| count > 0;
+        let mut kinds = self.kinds();
+        let mut fates = self.fates();
+        self.counts.iter().all(is_reached)
+            && kinds.all(|(_, _, count)| count > 0)
+            && self.shown.iter().all(is_reached)
+            && self.marked_again.iter().all(is_reached)
+            && fates.all(|(_, fate)| fate.is_reached())
+    }
+
+    pub fn lines(&self) -> u64 {
+        self.lines
     }
 
     /// Each number with its count.
@@ -67,16 +165,38 @@ impl Tally {
         self.counts.iter().copied().enumerate()
     }
 
-    /// Each number that a search may show with its count in searches.
-    pub fn searches(&self) -> impl Iterator<Item = (usize, u64)> + '_ {
-        OF_A_SEARCH
-            .map(|number| (number, self.searches[number]))
-            .into_iter()
+    /// The name of each later kind, each number it may show, and its count.
+    pub fn kinds(&self) -> impl Iterator<Item = (&'static str, usize, u64)> + '_ {
+        KINDS.iter().zip(&self.kinds).flat_map(|(kind, counts)| {
+            let numbers = kind.numbers.iter();
+            numbers.map(|&number| (kind.name, number, counts[number]))
+        })
     }
 
-    /// How many accounts the reports of searches show.
-    pub fn shown(&self) -> u64 {
-        self.shown
+    /// How many accounts the reports of searches show with 0, 1 and so on up
+    /// to 5 letters.
+    pub fn shown(&self) -> &[u64] {
+        &self.shown
+    }
+
+    /// Refusals to mark the marked bank again, and to mark another.
+    pub fn marked_again(&self) -> [u64; 2] {
+        self.marked_again
+    }
+
+    /// What became of payments in each case.
+    pub fn fates(&self) -> impl Iterator<Item = (Case, Fate)> + '_ {
+        let fate_of = |case: &Case| self.fates.get(case).copied().unwrap_or_default();
+        let cases = Case::all().into_iter();
+        cases.map(move |case| (case, fate_of(&case)))
+    }
+}
+
+impl Fate {
+    /// Whether there were credits and debits.
+    fn is_reached(&self) -> bool {
+        let mut counts = self.accepted.iter().zip(&self.blocked);
+        counts.all(|(accepted, blocked)| accepted + blocked > 0)
     }
 }
 

@@ -1,10 +1,15 @@
 //! Random lists are the same for the same seed and go deep.
 
-use reference::command::{Command, Condition, Mode};
+use reference::command::{Command, Condition, Mode, Transfer};
 use reference::frame::{decode, LONGEST_FRAME};
 use reference::generate::{generate, Workload};
+use reference::letters::Letter;
+use reference::lone_letter::{Case, Holder, Origin};
 use reference::stream::answers;
 use reference::tally::Tally;
+
+/// Seeds that choose each profile three times.
+const SEEDS: u64 = 27;
 
 fn lines_in(text: &[u8]) -> usize {
     text.split_inclusive(|&byte| byte == b'\n').count()
@@ -14,15 +19,9 @@ fn lines_of(text: &[u8]) -> impl Iterator<Item = &[u8]> {
     text.split(|&byte| byte == b'\n')
 }
 
-fn count(list: &[u8], tally: &mut Tally) {
-    for (line, answer) in lines_of(list).zip(lines_of(&answers(list))) {
-        tally.count(line, answer);
-    }
-}
-
 fn accepted(list: &[u8]) -> u64 {
     let mut tally = Tally::default();
-    count(list, &mut tally);
+    tally.count(list);
     let accepted = tally.counts().next();
     accepted.map_or(0, |(_, count)| count)
 }
@@ -61,11 +60,43 @@ fn searches_are_all_accepted() {
     assert!(lines_of(&list).filter(is_search).count() > 4_800);
 }
 
-#[test]
-fn the_profiles_reach_every_answer() {
+/// What the lists of all profiles reach.
+fn reached() -> Tally {
     let mut tally = Tally::default();
-    for seed in 0..24 {
-        count(&generate(seed, 3_000, Workload::All), &mut tally);
+    for seed in 0..SEEDS {
+        tally.count(&generate(seed, 3_000, Workload::All));
+    }
+    tally
+}
+
+/// What the paper says of a payment beside which one letter stands.
+fn blocks(case: Case, transfer: Transfer) -> bool {
+    let is_sent = matches!(case.holder, Holder::Sender | Holder::SendersBank);
+    match case.letter {
+        Letter::A | Letter::R => is_sent,
+        Letter::S => is_sent && transfer == Transfer::Credit,
+        Letter::B => !is_sent,
+        Letter::N => matches!(case.origin, Some(Origin::NoneMarked | Origin::Stranger)),
+    }
+}
+
+#[test]
+fn the_profiles_reach_everything() {
+    let tally = reached();
+    for (number, count) in tally.counts() {
+        assert!(count > 0, "{number}");
+    }
+    for (kind, number, count) in tally.kinds() {
+        assert!(count > 0, "{kind}: {number}");
+    }
+    for (case, fate) in tally.fates() {
+        for transfer in [Transfer::Credit, Transfer::Debit] {
+            let [accepted, blocked] =
+                [fate.accepted, fate.blocked].map(|counts| counts[transfer as usize]);
+            let is_blocked = blocks(case, transfer);
+            assert_eq!(accepted == 0, is_blocked, "{case}, {transfer:?}");
+            assert_eq!(blocked > 0, is_blocked, "{case}, {transfer:?}");
+        }
     }
     assert!(tally.is_complete());
 }

@@ -9,8 +9,9 @@ use std::thread;
 use std::time::{Duration, Instant};
 
 use reference::generate::{generate, profile_of, Workload};
+use reference::lone_letter::Case;
 use reference::stream;
-use reference::tally::Tally;
+use reference::tally::{Fate, Tally};
 
 /// How long the program may take for one list.
 const PATIENCE: Duration = Duration::from_secs(120);
@@ -66,28 +67,35 @@ fn read(arguments: &[String]) -> Option<Arguments> {
 #[derive(Default)]
 struct Summary {
     lists: u64,
-    lines: u64,
     differing: u64,
     tally: Tally,
 }
 
 impl Summary {
-    /// Lists that differ, and one more if some answer was never reached.
+    /// Lists that differ, and one more if something was never reached.
     fn failed(&self) -> u64 {
         self.differing + u64::from(!self.tally.is_complete())
     }
 
     fn print(&self) {
-        println!("{} lines compared in {} lists", self.lines, self.lists);
-        for (number, count) in self.tally.counts() {
+        let tally = &self.tally;
+        println!("{} lines compared in {} lists", tally.lines(), self.lists);
+        for (number, count) in tally.counts() {
             println!("{} {number:2}: {count}", name(number));
         }
-        for (number, count) in self.tally.searches() {
-            println!("search, {} {number:2}: {count}", name(number));
+        for (kind, number, count) in tally.kinds() {
+            println!("{kind}, {} {number:2}: {count}", name(number));
         }
-        println!("search, accounts shown: {}", self.tally.shown());
-        if !self.tally.is_complete() {
-            println!("not every answer and block was reached");
+        for (letters, count) in tally.shown().iter().enumerate() {
+            println!("search, accounts shown with {letters} letters: {count}");
+        }
+        let [same, other] = tally.marked_again();
+        println!("mark, answer 26 to the marked bank: {same}, to another: {other}");
+        for (case, fate) in tally.fates() {
+            print_fate(case, fate);
+        }
+        if !tally.is_complete() {
+            println!("not every answer, block and case was reached");
         }
         let tests = self.lists + 1;
         println!("{} passed, {} failed", tests - self.failed(), self.failed());
@@ -95,11 +103,18 @@ impl Summary {
 }
 
 fn name(number: usize) -> &'static str {
-    if number < 23 {
-        "answer"
-    } else {
-        "block"
+    match number {
+        23 | 24 => "block",
+        _ => "answer",
     }
+}
+
+fn print_fate(case: Case, fate: Fate) {
+    let Fate { accepted, blocked } = fate;
+    println!(
+        "{case}: credits {} accepted, {} blocked; debits {} accepted, {} blocked",
+        accepted[0], blocked[0], accepted[1], blocked[1]
+    );
 }
 
 /// Plays list after list until the budget is spent or a list differs.
@@ -117,10 +132,7 @@ fn run(arguments: &Arguments) -> Summary {
         let list = generate(seed, arguments.lines, Workload::All);
         let expected = stream::answers(&list);
         summary.lists += 1;
-        for (line, answer) in lines_of(&list).zip(lines_of(&expected)) {
-            summary.lines += 1;
-            summary.tally.count(line, answer);
-        }
+        summary.tally.count(&list);
         if let Err(difference) = compare(&arguments.program, &list, &expected) {
             println!("seed {seed} ({}): {difference}", profile_of(seed));
             summary.differing += 1;

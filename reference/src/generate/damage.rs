@@ -9,6 +9,25 @@ const SECOND: usize = 43;
 const COUNT: usize = 47;
 /// Where a search's first condition begins.
 const CONDITIONS: usize = 48;
+/// Where the byte of the letters stands.
+const LETTERS: usize = 7;
+
+/// Each kind with the length of a frame of it.
+const KINDS: [(u8, usize); 13] = [
+    (0x01, 7),
+    (0x02, 15),
+    (0x03, 15),
+    (0x04, 15),
+    (0x05, 23),
+    (0x06, 22),
+    (0x07, 67),
+    (0x08, 58),
+    (0x09, 58),
+    (0x0a, 5),
+    (0x0b, 60),
+    (0x0c, 8),
+    (0x13, 7),
+];
 
 impl Scenario {
     /// A line made from a good frame by one damage.
@@ -27,8 +46,8 @@ impl Scenario {
 
     fn damage_frame(&mut self, frame: &mut Vec<u8>) {
         match self.random.below(8) {
-            0 => frame[0] = self.random.pick(&[0, 0x0c, 0x10, 0xff]),
-            1 => frame[0] = 1 + self.random.below(11) as u8,
+            0 => frame[0] = self.random.pick(&[0, 0x0d, 0x10, 0x12, 0x14, 0xff]),
+            1 => (frame[0], _) = self.random.pick(&KINDS),
             2 => frame.push(self.random.byte()),
             3 => frame.truncate(self.random.below(frame.len() + 1)),
             4 => frame.extend(frame.clone()),
@@ -70,6 +89,12 @@ impl Scenario {
             0x07..=0x09 | 0x0b => {
                 let second: u32 = self.random.pick(&[86_400, 86_401, 1 << 24, u32::MAX]);
                 frame[SECOND..SECOND + 4].copy_from_slice(&second.to_be_bytes());
+            }
+            // Bits 5 to 7, beside the letters or alone.
+            0x0c => {
+                let bits = self.random.pick(&[0, frame[LETTERS]]);
+                let higher = self.random.pick(&[0x20, 0x40, 0x80, 0xe0]);
+                frame[LETTERS] = bits | higher;
             }
             _ => wrong(frame, 1, 0x2f),
         }
@@ -184,13 +209,13 @@ impl Scenario {
 
     /// A frame of right kind and length with random bytes in it.
     fn random_frame(&mut self) -> Vec<u8> {
-        const LENGTHS: [usize; 11] = [7, 15, 15, 15, 23, 22, 67, 58, 58, 5, 60];
-        let kind = self.random.below(LENGTHS.len());
-        let mut frame: Vec<u8> = (0..LENGTHS[kind]).map(|_| self.random.byte()).collect();
-        frame[0] = kind as u8 + 1;
+        let (kind, length) = self.random.pick(&KINDS);
+        let mut frame: Vec<u8> = (0..length).map(|_| self.random.byte()).collect();
+        frame[0] = kind;
         if self.random.percent(50) {
-            let first_code = if frame[0] == 0x06 { 2 } else { 1 };
-            for byte in frame.iter_mut().skip(first_code).take(12) {
+            let first_code = if kind == 0x06 { 2 } else { 1 };
+            let digits = if kind == 0x0c { 6 } else { 12 };
+            for byte in frame.iter_mut().skip(first_code).take(digits) {
                 *byte = b'0' + *byte % 10;
             }
         }

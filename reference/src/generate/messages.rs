@@ -153,7 +153,7 @@ impl Scenario {
     }
 
     /// Mostly a bank with branches.
-    fn head_bank(&mut self) -> u32 {
+    pub fn head_bank(&mut self) -> u32 {
         if self.flawed() {
             return self.party();
         }

@@ -5,7 +5,9 @@ use crate::account::{Account, TOP_VALUE};
 use crate::write::{self, ChangeItem, LPO_TYPE, LTK_TYPE};
 
 /// Kinds of frames.
-const KINDS: usize = 11;
+const KINDS: usize = 13;
+/// The place of the search among them.
+const SEARCH: usize = 10;
 
 /// How often, relative to each other, the kinds of lines come.
 struct Weights {
@@ -20,6 +22,10 @@ struct Weights {
     query: usize,
     day_opening: usize,
     search: usize,
+    letters: usize,
+    mark: usize,
+    /// A letter, payments that meet it, and its end.
+    blocking: usize,
     damaged: usize,
     noise: usize,
 }
@@ -34,6 +40,7 @@ pub struct Profile {
     flaws: usize,
     large: usize,
     alike: usize,
+    cleared: usize,
     weights: Weights,
 }
 
@@ -45,6 +52,7 @@ const GENERAL: Profile = Profile {
     flaws: 6,
     large: 3,
     alike: 0,
+    cleared: 70,
     weights: Weights {
         bank: 10,
         branch: 20,
@@ -57,12 +65,15 @@ const GENERAL: Profile = Profile {
         query: 100,
         day_opening: 20,
         search: 80,
+        letters: 10,
+        mark: 1,
+        blocking: 5,
         damaged: 30,
         noise: 10,
     },
 };
 
-static PROFILES: [Profile; 8] = [
+static PROFILES: [Profile; 9] = [
     GENERAL,
     Profile {
         name: "full table",
@@ -101,7 +112,6 @@ static PROFILES: [Profile; 8] = [
         fundings: 20,
         flaws: 2,
         large: 75,
-        alike: 0,
         weights: Weights {
             bank: 1,
             branch: 1,
@@ -113,6 +123,7 @@ static PROFILES: [Profile; 8] = [
             day_opening: 2,
             ..GENERAL.weights
         },
+        ..GENERAL
     },
     Profile {
         name: "total top",
@@ -121,13 +132,13 @@ static PROFILES: [Profile; 8] = [
         fundings: 240,
         flaws: 4,
         large: 30,
-        alike: 0,
         weights: Weights {
             funding: 500,
             withdrawal: 200,
             payment: 200,
             ..GENERAL.weights
         },
+        ..GENERAL
     },
     Profile {
         name: "messages",
@@ -150,10 +161,26 @@ static PROFILES: [Profile; 8] = [
         banks: 2,
         branches: 60,
         alike: 60,
+        cleared: 40,
         weights: Weights {
             payment: 300,
             day_opening: 40,
             search: 700,
+            letters: 60,
+            ..GENERAL.weights
+        },
+        ..GENERAL
+    },
+    Profile {
+        name: "letters",
+        banks: 4,
+        branches: 8,
+        weights: Weights {
+            bank: 2,
+            branch: 4,
+            letters: 40,
+            mark: 4,
+            blocking: 150,
             ..GENERAL.weights
         },
         ..GENERAL
@@ -179,6 +206,7 @@ pub fn play(scenario: &mut Scenario, seed: u64) {
     scenario.flaws = profile.flaws;
     scenario.large = profile.large;
     scenario.alike = profile.alike;
+    scenario.cleared = profile.cleared;
     begin(scenario, profile);
     while !scenario.is_done() {
         step(scenario, &profile.weights);
@@ -245,6 +273,7 @@ fn step(scenario: &mut Scenario, weights: &Weights) {
     let roll = scenario.random.weighted(&[
         weights.damaged,
         weights.noise,
+        weights.blocking,
         weights.bank,
         weights.branch,
         weights.funding,
@@ -256,12 +285,14 @@ fn step(scenario: &mut Scenario, weights: &Weights) {
         weights.query,
         weights.day_opening,
         weights.search,
+        weights.letters,
+        weights.mark,
     ]);
     match roll {
         0 => {
             // A search can be ill-formed in the most ways.
-            let kind = scenario.random.below(KINDS + 4).min(KINDS - 1);
-            let frame = frame_of(scenario, kind);
+            let kind = scenario.random.below(KINDS + 4);
+            let frame = frame_of(scenario, if kind < KINDS { kind } else { SEARCH });
             let line = scenario.damaged(frame);
             scenario.put_line(&line);
         }
@@ -269,8 +300,9 @@ fn step(scenario: &mut Scenario, weights: &Weights) {
             let line = scenario.noise();
             scenario.put_line(&line);
         }
+        2 => scenario.blocking(),
         kind => {
-            let frame = frame_of(scenario, kind - 2);
+            let frame = frame_of(scenario, kind - 3);
             scenario.put(&frame);
         }
     }
@@ -289,6 +321,8 @@ fn frame_of(scenario: &mut Scenario, kind: usize) -> Vec<u8> {
         7 => scenario.deletion(),
         8 => scenario.query(),
         9 => scenario.day_opening(),
-        _ => scenario.search(),
+        SEARCH => scenario.search(),
+        11 => scenario.letters(),
+        _ => scenario.mark(),
     }
 }

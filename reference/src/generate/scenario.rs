@@ -24,6 +24,8 @@ pub struct Scenario {
     pub large: usize,
     /// How many new codes in a hundred have no digits but 0 and 1.
     pub alike: usize,
+    /// How many frames of letters in a hundred take letters off.
+    pub cleared: usize,
     list: Vec<u8>,
     answer: Vec<u8>,
     lines: usize,
@@ -40,6 +42,7 @@ impl Scenario {
             flaws: 6,
             large: 5,
             alike: 0,
+            cleared: 70,
             list: Vec::new(),
             answer: Vec::new(),
             lines: 0,
@@ -110,8 +113,7 @@ impl Scenario {
 
     /// The account of a code, if there is one.
     pub fn known(&self, code: u32) -> Option<&Account> {
-        let mut accounts = self.ledger.accounts().iter();
-        accounts.find(|account| account.code == code)
+        self.ledger.account(code)
     }
 
     /// The bank behind an account.
