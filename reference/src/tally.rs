@@ -194,7 +194,7 @@ impl Tally {
 
 impl Fate {
     /// Whether there were credits and debits.
-    fn is_reached(&self) -> bool {
+    pub fn is_reached(&self) -> bool {
         let mut counts = self.accepted.iter().zip(&self.blocked);
         counts.all(|(accepted, blocked)| accepted + blocked > 0)
     }

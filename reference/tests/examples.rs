@@ -2,6 +2,7 @@
 
 use reference::examples;
 use reference::stream;
+use reference::tally::Tally;
 
 #[test]
 fn each_example_is_answered_as_named() {
@@ -27,12 +28,22 @@ fn each_example_is_answered_as_named() {
 #[test]
 fn every_answer_is_shown() {
     let all = examples::all();
-    for answer in 0..=22 {
+    for answer in (0..=22).chain([25, 26]) {
         assert!(
             all.iter().any(|example| example.answer == answer),
             "{answer}"
         );
     }
+}
+
+#[test]
+fn each_letter_is_shown_on_each_side() {
+    let mut tally = Tally::default();
+    tally.count(&examples::list());
+    for (case, fate) in tally.fates() {
+        assert!(fate.is_reached(), "{case}");
+    }
+    assert!(tally.marked_again().iter().all(|&count| count > 0));
 }
 
 #[test]

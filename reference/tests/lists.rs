@@ -101,6 +101,20 @@ fn the_profiles_reach_everything() {
     assert!(tally.is_complete());
 }
 
+#[test]
+fn letters_block_less_than_is_accepted() {
+    let (mut accepted, mut blocked) = (0, 0);
+    for seed in 0..SEEDS / 3 {
+        let list = generate(seed, 3_000, Workload::All);
+        for (line, answer) in lines_of(&list).zip(lines_of(&answers(&list))) {
+            let is_payment = line.starts_with(b"06");
+            accepted += u32::from(is_payment && answer == b"00");
+            blocked += u32::from(is_payment && answer == b"25");
+        }
+    }
+    assert!(accepted > 2 * blocked, "{accepted}, {blocked}");
+}
+
 /// The mode of a search's conditions, if all have the same.
 fn one_mode(line: &[u8]) -> Option<Mode> {
     let mut buffer = [0; LONGEST_FRAME];

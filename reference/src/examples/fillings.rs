@@ -4,8 +4,8 @@ use super::{example, header, item, query_of, Example, HEAD, NOBODY, POOR, RICH};
 use crate::account::TOP_VALUE;
 use crate::book;
 use crate::ledger::MOST_ACCOUNTS;
-use crate::write::{account_id, bank, branch, change, day_opening, deletion, funding, payment};
-use crate::write::{search, withdrawal, Sought, CONTAINS, CREDIT, DEBIT, LACKS};
+use crate::write::{account_id, bank, branch, change, day_opening, deletion, funding, letters};
+use crate::write::{payment, search, withdrawal, Sought, CONTAINS, CREDIT, DEBIT, LACKS, S};
 
 /// All states together reach 10^18.
 pub fn total_of_banks() -> Vec<Example> {
@@ -23,25 +23,28 @@ pub fn total_of_banks() -> Vec<Example> {
     opening.into_iter().chain(fundings).chain(top).collect()
 }
 
-/// A day's turnover reaches 10^17.
+/// A day's turnover reaches 10^17. 900000 has sent no credit on day 10, and
+/// 777777 received none.
 pub fn turnover() -> Vec<Example> {
     let pay = |amount| payment(CREDIT, RICH, POOR, amount);
-    let opening = [example(0, "day 10", day_opening(10))];
     let payments = (0..100).map(|_| example(0, "payment of 10^15", pay(TOP_VALUE)));
     let top = [
         example(8, "ICDT and RCDT over 10^17", pay(1)),
         example(8, "ICDT over 10^17", payment(CREDIT, RICH, HEAD, 1)),
         example(8, "RCDT over 10^17", payment(CREDIT, HEAD, POOR, 1)),
+        example(0, "S on 900000", letters(RICH, S)),
+        example(25, "25 before 8", pay(1)),
+        example(0, "no letter", letters(RICH, 0)),
         example(11, "11 before 8", payment(CREDIT, 888_012, POOR, 1)),
         example(0, "a debit", payment(DEBIT, POOR, RICH, TOP_VALUE)),
         example(0, "credits the other way", payment(CREDIT, POOR, RICH, 1)),
         example(0, "day 11", day_opening(11)),
         example(0, "turnovers are 0 again", pay(1)),
     ];
-    opening.into_iter().chain(payments).chain(top).collect()
+    payments.chain(top).collect()
 }
 
-/// The book is empty when day 12 opens: its last id was accepted on day 9.
+/// The book is empty when day 12 opens: its last id was accepted on day 10.
 pub fn book() -> Vec<Example> {
     let ask = |id: u32, day: u32| query_of(header(HEAD, id, day, 0), &[HEAD]);
     let seek = |id: u32, mode: u8| {

@@ -4,6 +4,7 @@
 mod answers;
 mod figures;
 mod fillings;
+mod letters;
 mod messages;
 mod searches;
 
@@ -27,6 +28,7 @@ pub fn all() -> Vec<Example> {
         fillings::total_of_banks(),
         answers::ill_formed(),
         searches::ill_formed(),
+        letters::ill_formed(),
         answers::accounts(),
         answers::payments(),
         messages::refusals(),
@@ -36,6 +38,11 @@ pub fn all() -> Vec<Example> {
         messages::ids_over_days(),
         searches::reports(),
         searches::refusals(),
+        letters::each_letter(),
+        letters::set_anew(),
+        letters::order(),
+        letters::central_bank(),
+        letters::next_day(),
         fillings::turnover(),
         fillings::book(),
         fillings::table(),

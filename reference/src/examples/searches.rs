@@ -17,11 +17,11 @@ fn sought(mode: u8, text: &[u8]) -> Sought {
     }
 }
 
-fn equal(code: u32) -> Sought {
+pub fn equal(code: u32) -> Sought {
     sought(EQUAL, &account_id(code))
 }
 
-fn contains(text: &[u8]) -> Sought {
+pub fn contains(text: &[u8]) -> Sought {
     sought(CONTAINS, text)
 }
 
