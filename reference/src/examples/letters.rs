@@ -169,8 +169,8 @@ pub fn central_bank() -> Vec<Example> {
         example(4, "mark 111111", mark(NOBODY)),
         example(5, "mark a branch", mark(POOR_BRANCH)),
         example(0, "mark 777777", mark(POOR)),
-        example(26, "26: mark another bank", mark(RICH)),
         example(26, "26: mark it again", mark(POOR)),
+        example(26, "26: mark another bank", mark(RICH)),
         example(4, "4 before 26", mark(NOBODY)),
         example(5, "5 before 26", mark(BRANCH)),
     ];
@@ -266,8 +266,8 @@ pub fn next_day() -> Vec<Example> {
         example(25, "S stays", credit(HEAD, RICH)),
         example(25, "for its branches too", credit(SISTER, RICH)),
         example(25, "N stays", debit(RICH, BRANCH)),
+        example(26, "no other mark comes", mark(HEAD)),
         example(0, "the mark stays", credit(POOR, BRANCH)),
-        example(26, "and no other comes", mark(RICH)),
         set("none on the bank", HEAD, 0),
         example(0, "a credit again", credit(HEAD, RICH)),
     ]
