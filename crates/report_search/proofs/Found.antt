@@ -58,7 +58,7 @@ those-most p (x ∷ xs) =
     let i = those-most p xs in
     elim (p x) as (λ b. length (cond b (x ∷ those p xs) (those p xs)) ≤ length (x ∷ xs)) [ true ↦ omega (arith, i) | false ↦ omega (arith, i) ]
 
--- 1 byte and 64 times 51 bytes at most
-pub report-most : (s : ℕ) (xs : List Rule.Account) (cs : List Condition) → length xs ≤ 64 → length (searchReport s xs cs) ≤ 3265
+-- 1 byte and 64 times 57 bytes at most
+pub report-most : (s : ℕ) (xs : List Rule.Account) (cs : List Condition) → length xs ≤ 64 → length (searchReport s xs cs) ≤ 3649
 unfolding searchReport selected
 report-most s xs cs h = omega (arith, blocks-most s xs (those (selects cs) xs), those-most (selects cs) xs)

@@ -1,4 +1,4 @@
--- Laws of what is said of one account: its parts one after the other, its length, and who may ask for the account at a place. Assumes nothing.
+-- Laws of what is said of one account: its length, its parts one after the other, and who may ask for the account at a place. Assumes nothing.
 use mathlib.Core.Path.{_≡_, sym, ap, _∙_}
 use mathlib.Core.Bool.{Bool, true, false, cond, _||_}
 use mathlib.Core.List.{List, [], _∷_, _++_}
@@ -14,6 +14,7 @@ use Rattle.rules.specs.Account as Rule
 use Rattle.rules.specs.Account.{Turnovers, state, at, blank}
 use Rattle.rules.specs.Message.{accountId, ownedBy, mayAsk}
 use Rattle.rules.specs.Invariant.{Sized}
+use Rattle.rules.specs.Letters.{letterBytes}
 use Rattle.rules.specs.Search.{turnoverBytes, shownBytes, foundBlock, foundBlocks}
 use Rattle.rules.proofs.Selection.{length-id}
 use Rattle.rules.proofs.Unique.{found}
@@ -24,6 +25,31 @@ use Rattle.table.specs.View.{accountsOf, machineOf}
 use Rattle.table.specs.Promise.{Good}
 use Rattle.table.proofs.Called.{all-place, every-sized, place-has}
 use Rattle.table.proofs.Places.{accounts-length, accounts-at}
+use Rattle.octet_writer.specs.Written.{Written}
+use Rattle.report_letters.proofs.Laws.{letters-most}
+
+-- ---- lengths
+
+length-turnovers : (t : Turnovers) → length (turnoverBytes t) ≡ 32
+unfolding turnoverBytes
+length-turnovers t = simp (length-append, length-money)
+
+length-shown : (x : Rule.Account) → length (shownBytes x) ≡ 51 + length (letterBytes (x .letters))
+unfolding shownBytes
+length-shown x = simp (length-append, length-id, length-money, length-turnovers) (omega arith)
+
+block-most : (s : ℕ) (xs : List Rule.Account) (y : Rule.Account) → length (foundBlock s xs y) ≤ 57
+unfolding foundBlock
+block-most s xs y =
+    elim (mayAsk s (y .code) xs) as (λ b. length (cond b (shownBytes y) (24 ∷ [])) ≤ 57) [
+      | true ↦ omega (arith, length-shown y, letters-most (y .letters))
+      | false ↦ omega arith
+    ]
+
+pub blocks-most : (s : ℕ) (xs ys : List Rule.Account) → length (foundBlocks s xs ys) ≤ length ys * 57
+unfolding foundBlocks
+blocks-most s xs [] = omega arith
+blocks-most s xs (y ∷ ys) = omega (arith, length-append (foundBlock s xs y) (foundBlocks s xs ys), block-most s xs y, blocks-most s xs ys)
 
 -- ---- one part after the other
 
@@ -42,35 +68,21 @@ module _ (i : ℕ) (s₀ s₁ s₂ s₃ s₄ : List ℕ) where
       (omega (arith, length-money (pos (t .rcdt)))))
       (omega (arith, length-money (pos (t .icdt))))
 
-  pub shown-written : (x : Rule.Account) → s₁ ≡ write s₀ i (0 ∷ []) → s₂ ≡ write s₁ (i + 1) (accountId (x .code)) → s₃ ≡ write s₂ (i + 11) (money (state x))
-      → s₄ ≡ write s₃ (i + 19) (turnoverBytes (x .turnovers)) → s₄ ≡ write s₀ i (shownBytes x)
+  pub shown-written : (x : Rule.Account) (s₅ : List ℕ) (j : ℕ) → s₁ ≡ write s₀ i (0 ∷ []) → s₂ ≡ write s₁ (i + 1) (accountId (x .code))
+      → s₃ ≡ write s₂ (i + 11) (money (state x)) → s₄ ≡ write s₃ (i + 19) (turnoverBytes (x .turnovers))
+      → Written s₄ (i + 51) (letterBytes (x .letters)) s₅ j → Written s₀ i (shownBytes x) s₅ j
   unfolding shownBytes
-  shown-written x e₁ e₂ e₃ e₄ =
-      joined s₀ s₁ s₄ i (i + 1) (0 ∷ []) _ e₁
-      (joined s₁ s₂ s₄ (i + 1) (i + 11) (accountId (x .code)) _ e₂
-      (joined s₂ s₃ s₄ (i + 11) (i + 19) (money (state x)) _ e₃ e₄ (omega (arith, length-money (state x))))
-      (omega (arith, length-id (x .code))))
-      (omega arith)
-
--- ---- lengths
-
-length-turnovers : (t : Turnovers) → length (turnoverBytes t) ≡ 32
-unfolding turnoverBytes
-length-turnovers t = simp (length-append, length-money)
-
-pub length-shown : (x : Rule.Account) → length (shownBytes x) ≡ 51
-unfolding shownBytes
-length-shown x = simp (length-append, length-id, length-money, length-turnovers)
-
-block-most : (s : ℕ) (xs : List Rule.Account) (y : Rule.Account) → length (foundBlock s xs y) ≤ 51
-unfolding foundBlock
-block-most s xs y =
-    elim (mayAsk s (y .code) xs) as (λ b. length (cond b (shownBytes y) (24 ∷ [])) ≤ 51) [ true ↦ omega (arith, length-shown y) | false ↦ omega arith ]
-
-pub blocks-most : (s : ℕ) (xs ys : List Rule.Account) → length (foundBlocks s xs ys) ≤ length ys * 51
-unfolding foundBlocks
-blocks-most s xs [] = omega arith
-blocks-most s xs (y ∷ ys) = omega (arith, length-append (foundBlock s xs y) (foundBlocks s xs ys), block-most s xs y, blocks-most s xs ys)
+  shown-written x s₅ j e₁ e₂ e₃ e₄ w = record {
+    bytes =
+        joined s₀ s₁ s₅ i (i + 1) (0 ∷ []) _ e₁
+        (joined s₁ s₂ s₅ (i + 1) (i + 11) (accountId (x .code)) _ e₂
+        (joined s₂ s₃ s₅ (i + 11) (i + 19) (money (state x)) _ e₃
+        (joined s₃ s₄ s₅ (i + 19) (i + 51) (turnoverBytes (x .turnovers)) _ e₄ (w .bytes) (omega (arith, length-turnovers (x .turnovers))))
+        (omega (arith, length-money (state x))))
+        (omega (arith, length-id (x .code))))
+        (omega arith);
+    behind = omega (arith, w .behind, length-shown x);
+  }
 
 -- ---- the account at a place of a good table
 

@@ -9,12 +9,12 @@ use lib.Count.{trailingZeros}
 use lib.Dec.{eqb}
 use lib.ListN.{length, getD, length-append}
 use Rattle.octets.specs.Octets.{write}
-use Rattle.octets.proofs.Places.{write-then}
 use Rattle.rules.specs.Account as Rule
 use Rattle.rules.specs.Search.{foundBlock, foundBlocks}
 use Rattle.search_set.specs.Sets.{chosen}
 use Rattle.search_set.proofs.Laws.{chosen-next, chosen-none}
 use Rattle.octet_writer.specs.Written.{Written}
+use Rattle.octet_writer.proofs.Laws.{written-then}
 use Rattle.report_search.proofs.Shown.{blocks-most}
 
 chosen-most : {X : Type 0} (n : ℕ) (l : List X) → length (chosen n l) ≤ length l
@@ -36,8 +36,8 @@ module _ (s : ℕ) (xs : List Rule.Account) (few : length xs ≤ 64) (set : ℕ)
   walked-none h = record { done = []; whole = refl; written = record { bytes = refl; behind = refl }; below = h }
 
   module _ (rest : ℕ) (out : List ℕ) (at : ℕ) (w : Walked s xs set rest l out at) where
-    -- 1 byte and 64 times 51 bytes at most
-    pub walked-room : at ≤ 3265
+    -- 1 byte and 64 times 57 bytes at most
+    pub walked-room : at ≤ 3649
     walked-room =
         let d = w .done in
         let r = foundBlocks s xs (chosen rest xs) in
@@ -52,10 +52,7 @@ module _ (s : ℕ) (xs : List Rule.Account) (few : length xs ≤ 64) (set : ℕ)
         record {
           done = w .done ++ b;
           whole = w .whole ∙ ap (λ (ys : List Rule.Account). w .done ++ foundBlocks s xs ys) (chosen-next 64 rest xs d few p (w .below)) ∙ sym (append-assoc (w .done) b r);
-          written = record {
-            bytes = q .bytes ∙ ap (λ (o : List ℕ). write o at b) (w .written .bytes) ∙ write-then l 1 (w .done) b at (w .written .behind);
-            behind = omega (arith, q .behind, length-append (w .done) b, w .written .behind);
-          };
+          written = written-then (w .written) q;
           below = omega (arith, and-le-l rest (rest - 1), w .below);
         }
 
@@ -67,7 +64,4 @@ module _ (s : ℕ) (xs : List Rule.Account) (few : length xs ≤ 64) (set : ℕ)
 
 -- the count before it
 pub counted : (l out₀ : List ℕ) (n : ℕ) (bs out : List ℕ) (at : ℕ) → out₀ ≡ write l 0 (n ∷ []) → Written out₀ 1 bs out at → Written l 0 ((n ∷ []) ++ bs) out at
-counted l out₀ n bs out at e w = record {
-  bytes = w .bytes ∙ ap (λ (o : List ℕ). write o 1 bs) e ∙ write-then l 0 (n ∷ []) bs 1 refl;
-  behind = omega (arith, w .behind);
-}
+counted l out₀ n bs out at e w = written-then {a = n ∷ []} (record { bytes = e; behind = refl }) w

@@ -19,6 +19,7 @@ use account_state::state_of;
 use octet_writer::put_byte;
 use octet_writer::put_i64;
 use octet_writer::put_u64;
+use report_letters::put_letters;
 use search_selection::account_id;
 use search_set::first_place;
 use search_set::size;
@@ -37,10 +38,10 @@ fn put_turnovers(out: &mut [u8], at: usize, t: [u64; 4])
     put_u64(out, at + 24, t[3]);
 }
 
-// 0, id, state and turnovers.
-fn put_shown(out: &mut [u8], at: usize, x: Account)
-    requires { ⌜ (at + 51 ≤ length (now out)) × (Sized (toAccount x)) ⌝ }
-    ensures { λ _. ⌜ now (out .exit) ≡ write (now (out .entry)) at (Search.shownBytes (toAccount x)) ⌝ }
+// 0, id, state, turnovers and the letters on the account itself; the place behind them.
+fn put_shown(out: &mut [u8], at: usize, x: Account) -> usize
+    requires { ⌜ (at + 57 ≤ length (now out)) × (Sized (toAccount x)) ⌝ }
+    ensures { λ r. ⌜ Written (now (out .entry)) at (Search.shownBytes (toAccount x)) (now (out .exit)) r ⌝ }
 {
     let id = account_id(x.code);
     let state = state_of(x);
@@ -49,16 +50,16 @@ fn put_shown(out: &mut [u8], at: usize, x: Account)
     copy(&id, 0, 10, out, at + 1);
     put_i64(out, at + 11, state);
     put_turnovers(out, at + 19, turnovers);
+    put_letters(out, at + 51, x.letters)
 }
 
 // The block of a selected account: what is shown of it, or 24 where it may not be asked for; the place behind it.
 fn put_found(out: &mut [u8], at: usize, x: Account, may: bool) -> usize
-    requires { ⌜ (at + 51 ≤ length (now out)) × (Sized (toAccount x)) ⌝ }
+    requires { ⌜ (at + 57 ≤ length (now out)) × (Sized (toAccount x)) ⌝ }
     ensures { λ r. ⌜ Written (now (out .entry)) at (cond may (Search.shownBytes (toAccount x)) (24 ∷ [])) (now (out .exit)) r ⌝ }
 {
     if may {
-        put_shown(out, at, x);
-        return at + 51;
+        return put_shown(out, at, x);
     }
     put_byte(out, at, 24);
     at + 1

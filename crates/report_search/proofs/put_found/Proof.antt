@@ -1,30 +1,22 @@
 use borrow.Author.Needs.{needs}
-use native.Mathlib.Omega.{arith}
 use mathlib.Core.Path.{refl}
-use Rattle.account.specs.View.{toAccount}
-use Rattle.report_search.proofs.Shown.{length-shown}
 use Rattle.report_search.proofs.put_found.Statement.{statement}
 use Rattle.report_search.proofs.put_found.Tie as tie
 
 put-shown-requires : tie.Need-put-shown-requires
 put-shown-requires c κs = search needs
 
-add-result : tie.Need-add-result
-add-result c = search needs
-
 same-length : tie.Need-same-length
 same-length c = search needs
 
 returns : tie.Need-returns
-returns c =
-    let s = c .before .before .before .before .before .before in
-    rw (c .before .before .before .before .if1 .taken) (record { bytes = c .before .before .put-shown .ensures; behind = omega (arith, length-shown (toAccount (s .args .x))) })
+returns c = rw (c .before .before .before .before .if1 .taken) (c .before .before .put-shown .ensures)
 
 put-byte-requires : tie.Need-put-byte-requires
 put-byte-requires c κs = search needs
 
-add-result-2 : tie.Need-add-result-2
-add-result-2 c = search needs
+add-result : tie.Need-add-result
+add-result c = search needs
 
 same-length-2 : tie.Need-same-length-2
 same-length-2 c = search needs
@@ -38,10 +30,9 @@ put-found-spec =
     tie.close
     (tie.spec
     put-shown-requires
-    add-result
     same-length
     returns
     put-byte-requires
-    add-result-2
+    add-result
     same-length-2
     returns-2)

@@ -41,18 +41,30 @@ add-put-turnovers c = search needs
 put-turnovers-requires : tie.Need-put-turnovers-requires
 put-turnovers-requires c κs = search needs
 
+add-put-letters : tie.Need-add-put-letters
+add-put-letters c = search needs
+
+put-letters-requires : tie.Need-put-letters-requires
+put-letters-requires c κs = search needs
+
 same-length : tie.Need-same-length
 same-length c = search needs
 
 returns : tie.Need-returns
 unfolding toAccount
 returns c =
-    let a = c .before .before .before .before .before .before .before .before .before .before .before .before .before .before .before .before .before .before .before .before .before .args in
+    let l = c .before .before in
+    let t = l .before .before .before .before in
+    let m = t .before .before .before .before in
+    let b = m .before .before .before .before in
+    let z = b .before .before .before .before .before in
+    let r = z .before .before .before .state-of in
+    let i = z .before .before .before .before .account-id in
+    let a = z .before .before .before .before .before .before .args in
     let x = toAccount (a .x) in
-    let i = c .before .before .before .before .before .before .before .before .before .before .before .before .before .before .before .before .before .before .before .account-id in
-    let r = c .before .before .before .before .before .before .before .before .before .before .before .before .before .before .before .before .before .before .state-of in
     let id : part 0 10 (i .result) ≡ accountId (x .code) = part-whole 10 (i .result) (ap length (i .ensures) ∙ length-id (x .code)) ∙ i .ensures in
-    shown-written (a .at) _ _ _ _ _ x (c .before .before .before .before .before .before .before .before .before .before .before .before .before .before .before .put-byte .ensures) (rw id at (c .before .before .before .before .before .before .before .before .before .before .copy .ensures)) (rw (back (r .result) (r .ok), r .ensures) at (c .before .before .before .before .before .before .put-i64 .ensures)) (c .before .before .put-turnovers .ensures)
+    shown-written (a .at) _ _ _ _ _ x _ _ (z .put-byte .ensures) (rw id at (b .copy .ensures)) (rw (back (r .result) (r .ok), r .ensures) at (m .put-i64 .ensures))
+    (t .put-turnovers .ensures) (l .put-letters .ensures)
 
 pub put-shown-spec : {M : Type 1} → statement M
 put-shown-spec =
@@ -68,5 +80,7 @@ put-shown-spec =
     put-i64-requires
     add-put-turnovers
     put-turnovers-requires
+    add-put-letters
+    put-letters-requires
     same-length
     returns)
