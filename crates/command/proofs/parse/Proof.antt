@@ -208,8 +208,9 @@ unfolding toCommands kindByte fieldsOf commandOf allValues valueOf plainValue wi
 returns-13 c =
     let w = c .before .before .before .before .before in
     let b = w .before .before .args .b .now in
+    let formed = sym (w .well-formed .ensures) ∙ not-false _ (c .before .before .before .before .if1 .left) in
     ordered-is (c .alone9 .result) _ (c .alone9 .ensures ∙ c .before .letters .ensures)
-    ∙ sym (rw (part-first 7 1 b (omega arith)) at (kind-command K0c b (sym (w .well-formed .ensures) ∙ not-false _ (c .before .before .before .before .if1 .left)) (c .before .before .match .keys12)))
+    ∙ sym (rw (part-first 7 1 b (omega arith)) at (kind-command K0c b formed (c .before .before .match .keys12)))
 
 returns-14 : tie.Need-returns-14
 unfolding toCommands kindByte fieldsOf commandOf allValues valueOf plainValue width size
