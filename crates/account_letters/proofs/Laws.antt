@@ -1,5 +1,5 @@
 -- A letter's bit is a divisor. Assumes nothing.
-use Prim.Native.Nat.{ℕ, _<_}
+use Prim.Native.Nat.{_<_}
 use native.Mathlib.Omega.{arith}
 use Rattle.rules.specs.Letters.{Letter, A, B, N, S, R, weight}
 

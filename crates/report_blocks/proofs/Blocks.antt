@@ -9,7 +9,6 @@ use borrow.Author.Tests.{ltb-true}
 use lib.Dec.{ltb, eqb}
 use lib.ListN.{length, take, getD, length-append}
 use Rattle.octets.specs.Octets.{part, write}
-use Rattle.octets.proofs.Places.{write-then}
 use Rattle.rules.specs.Account as Rule
 use Rattle.rules.specs.Account.{known, at}
 use Rattle.rules.specs.Command.{Header, Query}
@@ -27,6 +26,7 @@ use Rattle.table.specs.Promise.{Good, Slot}
 use Rattle.table.proofs.Called.{every-sized, place-has}
 use Rattle.table.proofs.Found.{place-is, place-known, account-at}
 use Rattle.octet_writer.specs.Written.{Written}
+use Rattle.octet_writer.proofs.Laws.{written-then}
 use Rattle.report_blocks.specs.Reportable.{Reportable}
 
 -- ---- lengths
@@ -87,19 +87,9 @@ module _ (l : List ℕ) (p s : ℕ) (xs : List Rule.Account) (a : List ℕ) wher
         ∙ ap (blocks s xs) (ids-behind a 0 k)
         ∙ blocks-behind s xs (idsFrom 0 k a) (part ((0 + k) * 10) 10 a)
         ∙ ap (λ (n : ℕ). bs ++ block s xs (named (part (n * 10) 10 a))) z) in
-        subst (λ (m : List ℕ). Written l p m out′ j) e (record {
-          bytes = q .bytes ∙ ap (λ (o : List ℕ). write o at b) (w .bytes) ∙ write-then l p bs b at (w .behind);
-          behind = omega (arith, q .behind, length-append bs b, w .behind);
-        })
+        subst (λ (m : List ℕ). Written l p m out′ j) e (written-then w q)
 
--- the count before the blocks
-pub report-whole : (l out₀ : List ℕ) (n : ℕ) (bs out : List ℕ) (at : ℕ) → out₀ ≡ write l 0 (n ∷ []) → Written out₀ 1 bs out at → Written l 0 ((n ∷ []) ++ bs) out at
-report-whole l out₀ n bs out at e w = record {
-  bytes = w .bytes ∙ ap (λ (o : List ℕ). write o 1 bs) e ∙ write-then l 0 (n ∷ []) bs 1 refl;
-  behind = omega (arith, w .behind);
-}
-
--- and that is the report of a query
+-- the count and the blocks are the report of a query
 pub report-written : (h : Header) (xs : List Rule.Account) (a : List ℕ) (n : ℕ) (l out : List ℕ) (at : ℕ) → Written l 0 ((n ∷ []) ++ blocks (h .sender) xs (idsFrom 0 n a)) out at
     → Written l 0 (reportOf xs (Query h (idsFrom 0 n a))) out at
 unfolding reportOf

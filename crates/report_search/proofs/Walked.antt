@@ -61,7 +61,3 @@ module _ (s : ℕ) (xs : List Rule.Account) (few : length xs ≤ 64) (set : ℕ)
     walked-all z =
         let e : foundBlocks s xs (chosen set xs) ≡ w .done = w .whole ∙ ap (λ (n : ℕ). w .done ++ foundBlocks s xs (chosen n xs)) z ∙ ap (λ (ys : List Rule.Account). w .done ++ foundBlocks s xs ys) (chosen-none xs) ∙ append-nil (w .done) in
         rw e (w .written)
-
--- the count before it
-pub counted : (l out₀ : List ℕ) (n : ℕ) (bs out : List ℕ) (at : ℕ) → out₀ ≡ write l 0 (n ∷ []) → Written out₀ 1 bs out at → Written l 0 ((n ∷ []) ++ bs) out at
-counted l out₀ n bs out at e w = written-then {a = n ∷ []} (record { bytes = e; behind = refl }) w

@@ -1,6 +1,6 @@
 -- Kind 13: the account to be stored. Assumes nothing.
 use borrow.Author.Needs.{needs}
-use mathlib.Core.Path.{_≡_, refl, sym, ap, _∙_}
+use mathlib.Core.Path.{_≡_, refl, sym, ap}
 use mathlib.Core.Bool.{Bool, not}
 use lib.ListN.{length}
 use Rattle.rules.specs.Account.{withMark}

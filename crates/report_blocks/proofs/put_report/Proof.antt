@@ -10,7 +10,8 @@ use Rattle.command.specs.View.{idsFrom}
 use Rattle.table.specs.View.{accountsOf}
 use Rattle.table.proofs.Places.{length-mapped}
 use Rattle.octet_writer.specs.Written.{Written}
-use Rattle.report_blocks.proofs.Blocks.{report-none, report-room, report-more, report-whole, place-reportable, place-block}
+use Rattle.octet_writer.proofs.Laws.{counted}
+use Rattle.report_blocks.proofs.Blocks.{report-none, report-room, report-more, place-reportable, place-block}
 use Rattle.report_blocks.proofs.put_report.Statement.{statement}
 use Rattle.report_blocks.proofs.put_report.Tie as tie
 
@@ -102,7 +103,7 @@ returns c =
     let a = c .before .before .before .before .before .before .before .args in
     let l = c .before .loop in
     let e : l .k ≡ a .n = omega arith in
-    report-whole (a .out .now) _ (a .n) (blocks (a .sender) (accountsOf (a .t1)) (idsFrom 0 (a .n) (a .t3))) _ _ (c .before .before .before .before .put-byte .ensures) (rw e at (l .inv .2))
+    counted (a .out .now) _ (a .n) (blocks (a .sender) (accountsOf (a .t1)) (idsFrom 0 (a .n) (a .t3))) _ _ (c .before .before .before .before .put-byte .ensures) (rw e at (l .inv .2))
 
 pub put-report-spec : {M : Type 1} → statement M
 put-report-spec =

@@ -15,8 +15,9 @@ use Rattle.search_set.proofs.Laws.{first-below}
 use Rattle.table.specs.View.{accountsOf}
 use Rattle.table.proofs.Places.{length-mapped, accounts-length}
 use Rattle.octet_writer.specs.Written.{Written}
+use Rattle.octet_writer.proofs.Laws.{counted}
 use Rattle.report_search.proofs.Shown.{place-sized, place-block}
-use Rattle.report_search.proofs.Walked.{Walked, walked-none, walked-room, walked-more, walked-all, counted}
+use Rattle.report_search.proofs.Walked.{Walked, walked-none, walked-room, walked-more, walked-all}
 use Rattle.report_search.proofs.put_search.Statement.{statement}
 use Rattle.report_search.proofs.put_search.Tie as tie
 
