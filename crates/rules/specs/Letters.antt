@@ -22,7 +22,7 @@ weight R = 16
 unfoldable pub has : Letter → ℕ → Bool
 has l byte = eqb (byte / weight l % 2) 1
 
--- 1 of the marked bank
+-- 1 where the account is marked, so that a sum counts the marks
 unfoldable pub mark : Account → ℕ
 mark x = cond (x .marked) 1 0
 
