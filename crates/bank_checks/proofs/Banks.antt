@@ -1,8 +1,8 @@
--- A call on a bank's account, kinds 03, 04, 05 and 13: what its first checks say, and the account stored anew. Assumes nothing.
+-- A call on a bank's account, kinds 03, 04, 05 and 13: what its first checks say. Assumes nothing.
 use mathlib.Core.Path.{_≡_, refl, sym, ap, ap₂, _∙_, subst}
 use mathlib.Core.Bool.{Bool, true, false, not, cond, _&&_}
 use mathlib.Core.List.{List}
-use Prim.Native.Nat.{ℕ, _≤_, _<_, _^_}
+use Prim.Native.Nat.{ℕ, _<_}
 use native.Mathlib.Omega.{arith}
 use borrow.Author.Tests.{le-leb}
 use mir.Syntax.{w64}
@@ -10,26 +10,22 @@ use mir.Val.{SFits}
 use lib.Dec.{T, ltb, ltb→lt}
 use lib.IntN.{ℤ, pos, negsuc}
 use lib.Signed.{leZ, nonNeg}
-use lib.ListN.{length, take, drop, getD, set}
+use lib.ListN.{length, take, drop, getD}
 use Rattle.amount.specs.Amount.{isLimit}
 use Rattle.octets.specs.Octets.{isMoney}
 use Rattle.octets.proofs.Numbers.{fits-money}
-use Rattle.rules.specs.Account as Rule
-use Rattle.rules.specs.Account.{Turnovers, isBank, codes, known, at, adjust}
+use Rattle.rules.specs.Account.{isBank, codes, known, at}
 use Rattle.rules.specs.Command.{Command, wellFormed}
-use Rattle.rules.specs.Machine.{checks, effect, answer, firstFailure, withAccounts}
+use Rattle.rules.specs.Machine.{checks, answer, firstFailure}
 use Rattle.rules.proofs.Bools.{and-l}
 use Rattle.rules.proofs.Checks.{numbered, passed, later-passed, early, late}
-use Rattle.rules.proofs.Owners.{Tame}
 use Rattle.account.specs.declared.Account.{Account}
-use Rattle.account.specs.View.{toAccount, Light}
+use Rattle.account.specs.View.{toAccount}
 use Rattle.table.specs.declared.Table.{Table}
 use Rattle.table.specs.View.{accountsOf, machineOf, placeOf}
-use Rattle.table.specs.Promise.{Good, call, CalledAt}
+use Rattle.table.specs.Promise.{Good, call, Slot}
 use Rattle.table.proofs.Found.{place-is, place-known, account-at}
-use Rattle.table.proofs.Stored.{stored-none, stored-with, stored-called}
 use Rattle.bank_checks.specs.Parts.{bankChecks}
-use Rattle.table.specs.Promise.{Slot}
 
 -- what the answer a of the first checks says of the command k, which names the code c: j is the place where its account was looked for,
 -- `more` the test of the fourth check
@@ -61,14 +57,6 @@ limits-tested l p y z a b ey ez ea eb = rw (ea, eb, ey, ez, from-zero l)
 pub and-money : (b : Bool) (a : ℤ) → SFits w64 a → b ≡ (b && isMoney a)
 and-money true a h = sym (fits-money a h)
 and-money false a h = refl
-
-light-kept : (b : ℕ) (x y : Rule.Account) → y .turnovers ≡ x .turnovers → Light b x → Light b y
-light-kept b x y e l = record {
-  icdt-light = subst (λ (u : Turnovers). u .icdt ≤ b) (sym e) (l .icdt-light);
-  rcdt-light = subst (λ (u : Turnovers). u .rcdt ≤ b) (sym e) (l .rcdt-light);
-  iddt-light = subst (λ (u : Turnovers). u .iddt ≤ b) (sym e) (l .iddt-light);
-  rddt-light = subst (λ (u : Turnovers). u .rddt ≤ b) (sym e) (l .rddt-light);
-}
 
 module _ (t : Table) (g : Good t) (long : length (t .accounts) ≡ 64) where
   slot-same : (i j : ℕ) → Slot i j → i < t .count → j ≡ i
@@ -115,14 +103,3 @@ module _ (t : Table) (g : Good t) (long : length (t .accounts) ≡ 64) where
 
       whole : a ≡ firstFailure (take 4 (checks (machineOf t) 0 k))
       whole = ea ∙ ap₂ (λ f n. cond f n 1) ef (bank-named c i j e s d (cond q 0 n)) ∙ ap (λ q. firstFailure (bankChecks (wellFormed k) (known c (accountsOf t)) (isBank (at c (accountsOf t))) n q)) eq ∙ ap firstFailure (sym b)
-
-  -- an account changed at its place, its turnovers as they were
-  pub changed : (k : Command) (c j : ℕ) (d : Account) → j ≡ placeOf c (codes (accountsOf t)) → j < t .count → (f : Rule.Account → Rule.Account) → Tame f → ((x : Rule.Account) → (f x) .turnovers ≡ x .turnovers)
-      → (y : Account) → toAccount y ≡ f (toAccount (getD (t .accounts) j d)) → answer (machineOf t) (call k) ≡ 0 → withAccounts (adjust c f (accountsOf t)) (machineOf t) ≡ effect (machineOf t) k
-      → CalledAt k t (record { answer = 0; place = j; account = y })
-  changed k c j d e h f tame kept y q z w = record {
-    below = omega (arith, h, g .within);
-    called =
-        stored-called t g k (set (t .accounts) j y) (10 ^ 17) (adjust c f (accountsOf t))
-        (stored-with t g (stored-none t g long) c j d e h f y tame (λ x l. light-kept (10 ^ 17) x (f x) (kept x) l) q) z w;
-  }

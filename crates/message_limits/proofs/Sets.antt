@@ -1,23 +1,23 @@
 -- A limit cleared, and accounts with other limits stored in a table. Assumes nothing.
-use mathlib.Core.Path.{_≡_, refl, sym, ap, ap₂, _∙_, subst}
+use mathlib.Core.Path.{_≡_, refl, sym, ap, ap₂, _∙_}
 use mathlib.Core.Bool.{true, false, cond}
 use mathlib.Core.List.{List, []}
-use Prim.Native.Nat.{ℕ, _^_, _<_, _≤_}
+use Prim.Native.Nat.{ℕ, _^_, _<_}
 use native.Mathlib.Omega.{arith}
 use lib.Dec.{eqb}
 use lib.ListN.{length, take, getD, set}
 use Rattle.rules.specs.Account as Rule
-use Rattle.rules.specs.Account.{Limit, Turnovers, withLimits, codes, adjust}
+use Rattle.rules.specs.Account.{Limit, withLimits, codes, adjust}
 use Rattle.rules.specs.Machine.{withAccounts}
 use Rattle.rules.specs.Message.{withLimit, cleared}
 use Rattle.rules.proofs.Ledger.{Quiet}
 use Rattle.account.specs.declared.Account.{Account}
-use Rattle.account.specs.View.{toAccount, Light}
+use Rattle.account.specs.View.{toAccount}
 use Rattle.table.specs.declared.Table.{Table}
 use Rattle.table.specs.Promise.{Good, Slot, Holds, storedAt}
 use Rattle.table.specs.View.{accountsOf, machineOf, placeOf}
 use Rattle.table.proofs.Found.{place-is}
-use Rattle.table.proofs.Stored.{Stored, stored-none, stored-with}
+use Rattle.table.proofs.Stored.{Stored, stored-none, stored-with, light-kept}
 
 -- ---- one account
 
@@ -29,20 +29,10 @@ cleared-limit kind x l e =
     → cond b (withLimits (cleared l) (x .lpo) x) (withLimits (x .ltk) (cleared l) x) ≡ cond b (withLimits (cleared (x .ltk)) (x .lpo) x) (withLimits (x .ltk) (cleared (x .lpo)) x))
     [ true ↦ λ e. ap (λ m. withLimits (cleared m) (x .lpo) x) e | false ↦ λ e. ap (λ m. withLimits (x .ltk) (cleared m) x) e ]) e
 
-light-kept : (b : ℕ) {f : Rule.Account → Rule.Account} → Quiet f → (x : Rule.Account) → Light b x → Light b (f x)
-light-kept b q x l =
-    let e = sym (q .turnovers-kept x) in
-    record {
-      icdt-light = subst (λ (u : Turnovers). u .icdt ≤ b) e (l .icdt-light);
-      rcdt-light = subst (λ (u : Turnovers). u .rcdt ≤ b) e (l .rcdt-light);
-      iddt-light = subst (λ (u : Turnovers). u .iddt ≤ b) e (l .iddt-light);
-      rddt-light = subst (λ (u : Turnovers). u .rddt ≤ b) e (l .rddt-light);
-    }
-
 module _ (t : Table) (g : Good t) (long : length (t .accounts) ≡ 64) where
   module _ {arr : List Account} {b : ℕ} {xs : List Rule.Account} (s : Stored t arr b xs) (c p : ℕ) (e : p ≡ placeOf c (take (t .count) (t .codes))) {f : Rule.Account → Rule.Account} (q : Quiet f) where
     pub one-changed : (y d : Account) → p < t .count → toAccount y ≡ f (toAccount (getD arr p d)) → Stored t (set arr p y) b (adjust c f xs)
-    one-changed y d h r = stored-with t g s c p d (place-is t g c p e) h f y (q .tame) (light-kept b q) r
+    one-changed y d h r = stored-with t g s c p d (place-is t g c p e) h f y (q .tame) (λ x. light-kept b x (f x) (q .turnovers-kept x)) r
 
   pub stored-holds : (u : Table) (b : ℕ) (xs : List Rule.Account) → u .codes ≡ t .codes → u .count ≡ t .count → u .day ≡ t .day → Stored t (u .accounts) b xs → Holds t u xs
   unfolding machineOf accountsOf withAccounts

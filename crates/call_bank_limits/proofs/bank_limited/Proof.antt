@@ -14,8 +14,9 @@ use Rattle.account.specs.View.{toLimit}
 use Rattle.table.specs.View.{machineOf}
 use Rattle.table.proofs.Called.{declined-at}
 use Rattle.table.proofs.Places.{length-mapped}
+use Rattle.table.proofs.Stored.{changed}
 use Rattle.bank_checks.specs.Parts.{bankChecks}
-use Rattle.bank_checks.proofs.Banks.{Screened, screened, changed, and-money, limits-tested}
+use Rattle.bank_checks.proofs.Banks.{Screened, screened, and-money, limits-tested}
 use Rattle.call_bank_limits.proofs.bank_limited.Statement.{statement}
 use Rattle.call_bank_limits.proofs.bank_limited.Tie as tie
 

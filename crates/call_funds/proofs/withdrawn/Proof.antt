@@ -16,8 +16,9 @@ use Rattle.table.specs.Promise.{call}
 use Rattle.table.proofs.Called.{declined-at}
 use Rattle.table.proofs.Found.{account-at, account-sized}
 use Rattle.table.proofs.Places.{length-mapped}
+use Rattle.table.proofs.Stored.{changed}
 use Rattle.bank_checks.specs.Parts.{bankChecks}
-use Rattle.bank_checks.proofs.Banks.{Screened, screened, changed, refuses, and-money}
+use Rattle.bank_checks.proofs.Banks.{Screened, screened, refuses, and-money}
 use Rattle.call_funds.proofs.withdrawn.Statement.{statement}
 use Rattle.call_funds.proofs.withdrawn.Tie as tie
 

@@ -10,8 +10,9 @@ use Rattle.rules.proofs.Ledger.{quiet-mark}
 use Rattle.table.specs.View.{accountsOf, machineOf}
 use Rattle.table.proofs.Called.{declined-at}
 use Rattle.table.proofs.Places.{length-mapped}
+use Rattle.table.proofs.Stored.{changed}
 use Rattle.bank_checks.specs.Parts.{bankChecks}
-use Rattle.bank_checks.proofs.Banks.{Screened, screened, changed}
+use Rattle.bank_checks.proofs.Banks.{Screened, screened}
 use Rattle.call_letters.proofs.bank_marked.Statement.{statement}
 use Rattle.call_letters.proofs.bank_marked.Tie as tie
 

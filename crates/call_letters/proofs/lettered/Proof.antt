@@ -15,7 +15,7 @@ use Rattle.table.specs.View.{machineOf}
 use Rattle.table.proofs.Called.{declined-at}
 use Rattle.table.proofs.Found.{place-is, place-known, known-in}
 use Rattle.table.proofs.Places.{length-mapped}
-use Rattle.bank_checks.proofs.Banks.{changed}
+use Rattle.table.proofs.Stored.{changed}
 use Rattle.call_letters.proofs.lettered.Statement.{statement}
 use Rattle.call_letters.proofs.lettered.Tie as tie
 
