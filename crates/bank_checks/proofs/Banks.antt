@@ -25,7 +25,7 @@ use Rattle.table.specs.declared.Table.{Table}
 use Rattle.table.specs.View.{accountsOf, machineOf, placeOf}
 use Rattle.table.specs.Promise.{Good, call, Slot}
 use Rattle.table.proofs.Found.{place-is, place-known, account-at}
-use Rattle.bank_checks.specs.Parts.{bankChecks}
+use Rattle.bank_checks.specs.Parts.{bankCallChecks}
 
 -- what the answer a of the first checks says of the command k, which names the code c: j is the place where its account was looked for,
 -- `more` the test of the fourth check
@@ -39,7 +39,7 @@ pub record Screened (t : Table) (k : Command) (c j : ℕ) (more : Bool) (a : ℕ
 
 -- the commands that begin with these checks, the fourth of which answers n
 abbrev pub Begins : Table → Command → ℕ → ℕ → Bool → Type 0
-Begins t k c n more = take 4 (checks (machineOf t) 0 k) ≡ bankChecks (wellFormed k) (known c (accountsOf t)) (isBank (at c (accountsOf t))) n more
+Begins t k c n more = take 4 (checks (machineOf t) 0 k) ≡ bankCallChecks (wellFormed k) (known c (accountsOf t)) (isBank (at c (accountsOf t))) n more
 
 pub refuses : (b : Bool) (x y : ℕ) → cond (not b) x y ≡ cond b y x
 refuses true x y = refl
@@ -75,8 +75,8 @@ module _ (t : Table) (g : Good t) (long : length (t .accounts) ≡ 64) where
       go false h = refl
 
   pub screened : (n : ℕ) → T (ltb 0 n && true) → (k : Command) (c i j : ℕ) → i ≡ placeOf c (take (t .count) (t .codes)) → Slot i j → (d : Account) (formed tested more : Bool) → formed ≡ wellFormed k → Begins t k c n more
-      → (a : ℕ) → a ≡ firstFailure (bankChecks formed (ltb i (t .count)) (isBank (toAccount (getD (t .accounts) j d))) n tested) → tested ≡ more → Screened t k c j more a
-  unfolding answer call bankChecks firstFailure
+      → (a : ℕ) → a ≡ firstFailure (bankCallChecks formed (ltb i (t .count)) (isBank (toAccount (getD (t .accounts) j d))) n tested) → tested ≡ more → Screened t k c j more a
+  unfolding answer call bankCallChecks firstFailure
   screened n p k c i j e s d f q r ef b a ea eq = record {
     declines = early 4 (checks (machineOf t) 0 k) a whole;
     passes = λ z. subst T eq (last q (later-passed 3 tests p (sym ea ∙ z)));
@@ -89,7 +89,7 @@ module _ (t : Table) (g : Good t) (long : length (t .accounts) ≡ 64) where
       own = isBank (toAccount (getD (t .accounts) j d))
 
       tests : List (ℕ × Bool)
-      tests = bankChecks f (ltb i (t .count)) own n q
+      tests = bankCallChecks f (ltb i (t .count)) own n q
 
       last : (b : Bool) → cond b 0 n ≡ 0 → T b
       last true z = tt
@@ -102,4 +102,4 @@ module _ (t : Table) (g : Good t) (long : length (t .accounts) ≡ 64) where
       same z = slot-same i j s (in-table z)
 
       whole : a ≡ firstFailure (take 4 (checks (machineOf t) 0 k))
-      whole = ea ∙ ap₂ (λ f n. cond f n 1) ef (bank-named c i j e s d (cond q 0 n)) ∙ ap (λ q. firstFailure (bankChecks (wellFormed k) (known c (accountsOf t)) (isBank (at c (accountsOf t))) n q)) eq ∙ ap firstFailure (sym b)
+      whole = ea ∙ ap₂ (λ f n. cond f n 1) ef (bank-named c i j e s d (cond q 0 n)) ∙ ap (λ q. firstFailure (bankCallChecks (wellFormed k) (known c (accountsOf t)) (isBank (at c (accountsOf t))) n q)) eq ∙ ap firstFailure (sym b)

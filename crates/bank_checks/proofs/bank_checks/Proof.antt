@@ -1,7 +1,7 @@
 -- The checks that a call on a bank's account begins with. Assumes nothing.
 use borrow.Author.Needs.{needs}
 use Rattle.rules.specs.Machine.{firstFailure}
-use Rattle.bank_checks.specs.Parts.{bankChecks}
+use Rattle.bank_checks.specs.Parts.{bankCallChecks}
 use Rattle.bank_checks.proofs.bank_checks.Statement.{statement}
 use Rattle.bank_checks.proofs.bank_checks.Tie as tie
 
@@ -24,7 +24,7 @@ first-requires-4 : tie.Need-first-requires-4
 first-requires-4 c κs = search needs
 
 returns : tie.Need-returns
-unfolding bankChecks firstFailure
+unfolding bankCallChecks firstFailure
 returns c =
     rw (c .first4 .ensures, c .before .first3 .ensures, c .before .before .first2 .ensures, c .before .before .before .first .ensures, c .before .before .before .before .is-bank .ensures, c .before .before .before .before .before .is-code .ensures)
 

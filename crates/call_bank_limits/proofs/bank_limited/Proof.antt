@@ -15,7 +15,7 @@ use Rattle.table.specs.View.{machineOf}
 use Rattle.table.proofs.Called.{declined-at}
 use Rattle.table.proofs.Places.{length-mapped}
 use Rattle.table.proofs.Stored.{changed}
-use Rattle.bank_checks.specs.Parts.{bankChecks}
+use Rattle.bank_checks.specs.Parts.{bankCallChecks}
 use Rattle.bank_checks.proofs.Banks.{Screened, screened, and-money, limits-tested}
 use Rattle.call_bank_limits.proofs.bank_limited.Statement.{statement}
 use Rattle.call_bank_limits.proofs.bank_limited.Tie as tie
@@ -33,7 +33,7 @@ abbrev inRange : tie.Start → Bool
 inRange s = nonNeg (s .args .ltk) && isLimit (s .args .ltk) && isLimit (s .args .lpo)
 
 checked : (c : tie.After-bank-checks) → Screened (entry c .args .t1) (asked (entry c)) (entry c .args .code) (c .before .before .before .before .slot .result) (inRange (entry c)) (c .bank-checks .result)
-unfolding checks bankChecks machineOf wellFormed
+unfolding checks bankCallChecks machineOf wellFormed
 checked c =
     let s = entry c in
     let p = c .before .before .before .before .before .place in

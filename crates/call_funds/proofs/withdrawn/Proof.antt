@@ -17,7 +17,7 @@ use Rattle.table.proofs.Called.{declined-at}
 use Rattle.table.proofs.Found.{account-at, account-sized}
 use Rattle.table.proofs.Places.{length-mapped}
 use Rattle.table.proofs.Stored.{changed}
-use Rattle.bank_checks.specs.Parts.{bankChecks}
+use Rattle.bank_checks.specs.Parts.{bankCallChecks}
 use Rattle.bank_checks.proofs.Banks.{Screened, screened, refuses, and-money}
 use Rattle.call_funds.proofs.withdrawn.Statement.{statement}
 use Rattle.call_funds.proofs.withdrawn.Tie as tie
@@ -33,7 +33,7 @@ asked s = Withdrawal (s .args .code) (s .args .amount)
 
 -- the first checks
 checked : (c : tie.After-bank-checks) → Screened (entry c .args .t1) (asked (entry c)) (entry c .args .code) (c .before .before .before .slot .result) (isAmount (entry c .args .amount)) (c .bank-checks .result)
-unfolding checks bankChecks machineOf wellFormed
+unfolding checks bankCallChecks machineOf wellFormed
 checked c =
     let s = entry c in
     let p = c .before .before .before .before .place in

@@ -11,7 +11,7 @@ use Rattle.table.specs.View.{accountsOf, machineOf}
 use Rattle.table.proofs.Called.{declined-at}
 use Rattle.table.proofs.Places.{length-mapped}
 use Rattle.table.proofs.Stored.{changed}
-use Rattle.bank_checks.specs.Parts.{bankChecks}
+use Rattle.bank_checks.specs.Parts.{bankCallChecks}
 use Rattle.bank_checks.proofs.Banks.{Screened, screened}
 use Rattle.call_letters.proofs.bank_marked.Statement.{statement}
 use Rattle.call_letters.proofs.bank_marked.Tie as tie
@@ -29,7 +29,7 @@ abbrev noneMarked : tie.Start → Bool
 noneMarked s = not (some? (λ x. x .marked) (accountsOf (s .args .t1)))
 
 checked : (c : tie.After-bank-checks) → Screened (entry c .args .t1) (asked (entry c)) (entry c .args .code) (c .before .before .before .slot .result) (noneMarked (entry c)) (c .bank-checks .result)
-unfolding checks bankChecks machineOf wellFormed
+unfolding checks bankCallChecks machineOf wellFormed
 checked c =
     let s = entry c in
     let p = c .before .before .before .before .place in
