@@ -7,6 +7,7 @@ pub mod Ledger
 pub mod Branches
 pub mod Sound
 pub mod Payments
+pub mod Groups
 pub mod Entries
 pub mod Bound
 pub mod Marks
