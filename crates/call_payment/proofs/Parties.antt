@@ -7,7 +7,7 @@ use Prim.Native.Nat.{ℕ, zero, suc, _≤_, _<_}
 use native.Mathlib.Omega.{arith}
 use lib.ListN.{length, take, drop, getD}
 use lib.IntN.{pos, natAbs}
-use lib.Dec.{T}
+use lib.Dec.{T, eqb}
 use Rattle.amount.specs.Amount.{isAmount}
 use Rattle.rules.specs.Account as Rule
 use Rattle.rules.specs.Account.{codes, known, at}
@@ -15,9 +15,10 @@ use Rattle.rules.specs.Command.{Command, Payment}
 use Rattle.rules.specs.Invariant.{Sized}
 use Rattle.rules.specs.Letters.{lettersAllow}
 use Rattle.rules.specs.Machine.{checks, firstFailure, answer}
-use Rattle.rules.specs.Payment.{isCredit, payer, payee, bankOr, bankOf, sideHasRoom, paymentChecks}
+use Rattle.rules.specs.Payment.{isCredit, payer, payee, bankOr, bankOf, inside, paymentChecks}
 use Rattle.rules.proofs.Bools.{and-l, and-r}
 use Rattle.rules.proofs.Checks.{passed, early, late}
+use Rattle.rules.proofs.Lists.{at-code}
 use Rattle.rules.proofs.Owners.{bank-of}
 use Rattle.account.specs.declared.Account.{Account}
 use Rattle.account.specs.declared.Owner.the-variants.{Bank}
@@ -88,6 +89,12 @@ unfolding payer payee sidesPass lettersAllow
 sides-allow true s r xs = refl
 sides-allow false s r xs = refl
 
+-- the accounts of two banks are one exactly where the banks are
+banks-inside : (p q : ℕ) (xs : List Rule.Account) → T (known (bankOf p xs) xs) → T (known (bankOf q xs) xs)
+    → eqb ((at (bankOf p xs) xs) .code) ((at (bankOf q xs) xs) .code) ≡ inside p q xs
+unfolding inside
+banks-inside p q xs h k = ap₂ eqb (at-code (bankOf p xs) xs h) (at-code (bankOf q xs) xs k)
+
 bank-found : (o : Option ℕ) (c i : ℕ) (cs : List ℕ) → i ≡ placeOf c cs → bankPlace o i cs ≡ placeOf (bankOr o c) cs
 unfolding bankPlace bankOr
 bank-found none c i cs e = e
@@ -97,6 +104,10 @@ module _ (t : Table) (g : Good t) (long : length (t .accounts) ≡ 64) where
   known-below : (c i : ℕ) → i ≡ placeOf c (take (t .count) (t .codes)) → T (known c (accountsOf t)) → i < t .count
   known-below c i e k = known-in t g long c i (place-is t g c i e) k
 
+  bank-known : (c : ℕ) → T (known c (accountsOf t)) → T (known (bankOf c (accountsOf t)) (accountsOf t))
+  unfolding machineOf
+  bank-known c h = bank-of c (accountsOf t) (g .inv .owned) h .0
+
   party : (c i k : ℕ) (d : Account) → i ≡ placeOf c (take (t .count) (t .codes)) → T (known c (accountsOf t))
       → k ≡ bankPlace ((toAccount (getD (t .accounts) i d)) .owner) i (take (t .count) (t .codes)) → Party t c i k
   unfolding bankOf machineOf
@@ -104,7 +115,7 @@ module _ (t : Table) (g : Good t) (long : length (t .accounts) ≡ 64) where
     place = here;
     below = under;
     bank-place = found ∙ ap (placeOf (bankOf c (accountsOf t))) (g .same);
-    bank-below = known-below (bankOf c (accountsOf t)) k found (bank-of c (accountsOf t) (g .inv .owned) h .0);
+    bank-below = known-below (bankOf c (accountsOf t)) k found (bank-known c h);
     within = g .within;
   }
     where
@@ -180,8 +191,17 @@ module _ (t : Table) (g : Good t) (long : length (t .accounts) ≡ 64) where
       known-both z = passed 4 (take 4 tests) tt z
 
       others : firstFailure (take 4 tests) ≡ 0 → firstFailure (drop 4 tests) ≡ firstFailure (drop 4 (checks (machineOf t) 0 (asPayment p)))
-      unfolding earlyChecks partyChecks checks paymentChecks sideHasRoom machineOf
-      others z = let h = known-both z in rw (own-at (payer-party h) outside, bank-at (payer-party h) outside, own-at (payee-party h) outside, bank-at (payee-party h) outside, sides-allow (isCredit (p .way)) (p .sender) (p .receiver) (accountsOf t))
+      unfolding earlyChecks partyChecks checks paymentChecks machineOf
+      others z =
+          let h = known-both z in
+          rw (
+            own-at (payer-party h) outside,
+            bank-at (payer-party h) outside,
+            own-at (payee-party h) outside,
+            bank-at (payee-party h) outside,
+            sides-allow (isCredit (p .way)) (p .sender) (p .receiver) (accountsOf t),
+            banks-inside from to (accountsOf t) (bank-known from (and-l (known from (accountsOf t)) _ (both h))) (bank-known to (and-r (known from (accountsOf t)) _ (both h))),
+          )
 
       pub answered : e ≡ answer (machineOf t) (call (asPayment p))
       unfolding answer call earlyChecks checks

@@ -1,6 +1,5 @@
 // The checks of a payment in their order: those that look at no account, then those of the parties and their banks.
 ghost use mathlib.Core.Path.{_≡_};
-ghost use mathlib.Core.Bool.{_&&_};
 ghost use Prim.Native.Nat.{_≤_, _<_, _^_};
 ghost use Rattle.rules.specs.Invariant.{Sized};
 ghost use Rattle.rules.specs.Machine.{firstFailure};
@@ -35,22 +34,23 @@ pub fn early(way: u8, sender: u32, receiver: u32, amount: i64, known: bool) -> u
 // Room at one side: on the party's account x and on its bank's, b.
 fn side_room(x: Account, b: Account, turnover: usize, n: u64) -> bool
     requires { ⌜ (Sized (toAccount x)) × (Sized (toAccount b)) × (turnover < 4) × (n ≤ 10 ^ 15) ⌝ }
-    ensures { λ r. ⌜ r ≡ (Payment.hasRoom (turnoverOf turnover) n (toAccount b) && Payment.hasRoom (turnoverOf turnover) n (toAccount x)) ⌝ }
+    ensures { λ r. ⌜ r ≡ Payment.sideHasRoom (turnoverOf turnover) n (toAccount x) (toAccount b) ⌝ }
 {
     has_room(b, turnover, n) & has_room(x, turnover, n)
 }
 
-// The others, of the payer x and its bank b, the payee y and its bank d.
+// The others, of the payer x and its bank b, the payee y and its bank d. Where b is d, the bank loses nothing, and its limits are not asked.
 pub fn late(credit: bool, n: u64, x: Account, b: Account, y: Account, d: Account) -> u64
     requires { ⌜ (Sized (toAccount x)) × (Sized (toAccount b)) × (Sized (toAccount y)) × (Sized (toAccount d)) × (n ≤ 10 ^ 15) ⌝ }
     ensures { λ r. ⌜ r ≡ firstFailure (partyChecks credit n (toAccount x) (toAccount b) (toAccount y) (toAccount d)) ⌝ }
 {
     let c25 = sides_pass(credit, x, b, y, d);
+    let inside = b.code == d.code;
+    let c9 = inside | covers(b, n);
+    let c10 = inside | (!credit | under_cap(b, n));
     let bank = is_bank(x);
-    let c9 = covers(b, n);
-    let c10 = !credit | under_cap(b, n);
     let c11 = bank | covers(x, n);
-    let c12 = !credit | (bank | under_cap(x, n));
+    let c12 = bank | (!credit | under_cap(x, n));
     let out = side_room(x, b, out_turnover(credit), n);
     let into = side_room(y, d, in_turnover(credit), n);
     first(
