@@ -198,7 +198,10 @@ impl Ledger {
             Transfer::Credit => (sender, ICDT, RCDT),
             Transfer::Debit => (receiver, IDDT, RDDT),
         };
-        self.check_limits(transfer, payer, amount)?;
+        if !self.share_bank(sender, receiver) {
+            self.check_bank(transfer, payer, amount)?;
+        }
+        self.check_branch(transfer, payer, amount)?;
 
         let sides = [(sender, sent), (receiver, received)];
         let has_room = |&(place, turnover): &(usize, usize)| {
@@ -229,20 +232,30 @@ impl Ledger {
         self.accounts[place].letters.with(bank.letters)
     }
 
-    /// The payer's bank comes first, then the payer itself if it is a branch.
-    fn check_limits(&self, transfer: Transfer, payer: usize, amount: i64) -> Answer {
-        let is_credit = transfer == Transfer::Credit;
+    /// Whether one bank stands behind both, so that it loses nothing by a
+    /// payment between them.
+    fn share_bank(&self, one: usize, other: usize) -> bool {
+        self.bank_of(one) == self.bank_of(other)
+    }
+
+    /// The limits of the payer's bank.
+    fn check_bank(&self, transfer: Transfer, payer: usize, amount: i64) -> Answer {
         let bank = &self.accounts[self.bank_of(payer)];
         require(bank.may_fall_by(amount), Refusal::BankBelowLtk)?;
-        if is_credit {
+        if transfer == Transfer::Credit {
             require(bank.may_send_credit(amount), Refusal::BankLpo)?;
         }
+        Ok(())
+    }
+
+    /// The limits of the payer itself, if it is a branch.
+    fn check_branch(&self, transfer: Transfer, payer: usize, amount: i64) -> Answer {
         let payer = &self.accounts[payer];
         if payer.is_bank() {
             return Ok(());
         }
         require(payer.may_fall_by(amount), Refusal::BranchLtk)?;
-        if is_credit {
+        if transfer == Transfer::Credit {
             require(payer.may_send_credit(amount), Refusal::BranchLpo)?;
         }
         Ok(())

@@ -62,8 +62,15 @@ pub fn payments() -> Vec<Example> {
             credit(POOR_BRANCH, RICH, 101),
         ),
         example(9, "bank state 99, pay 100", credit(POOR_BRANCH, RICH, 100)),
-        example(9, "inside one group alike", credit(POOR_BRANCH, POOR, 100)),
-        example(0, "bank state 99, pay 99", credit(POOR_BRANCH, POOR, 99)),
+        example(0, "bank state 99, pay 99", credit(POOR_BRANCH, RICH, 99)),
+        example(9, "bank state 0, pay 1", credit(POOR_BRANCH, RICH, 1)),
+        example(0, "99 back", credit(RICH, POOR_BRANCH, 99)),
+        example(11, "inside one group no 9", credit(POOR_BRANCH, POOR, 101)),
+        example(
+            0,
+            "bank state 99, pay it 100",
+            credit(POOR_BRANCH, POOR, 100),
+        ),
     ]
 }
 
