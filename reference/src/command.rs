@@ -13,7 +13,7 @@ pub struct Header {
     pub moment: Moment,
 }
 
-#[derive(Clone, Copy, Debug, PartialEq, Eq)]
+#[derive(Clone, Copy, Debug, PartialEq, Eq, PartialOrd, Ord)]
 pub enum Transfer {
     Credit,
     Debit,

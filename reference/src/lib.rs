@@ -14,6 +14,7 @@ pub mod ledger;
 pub mod letters;
 pub mod lone_letter;
 pub mod message;
+pub mod one_group;
 pub mod report;
 pub mod stream;
 pub mod tally;

@@ -1,5 +1,6 @@
 //! What lists reach: how often each answer and each block number occurs, how
-//! often in the later kinds, and what a letter does to payments.
+//! often in the later kinds, what a letter does to payments, and what payments
+//! get inside one group and out of it.
 
 use std::collections::BTreeMap;
 
@@ -9,6 +10,7 @@ use crate::frame::{decode, LONGEST_FRAME};
 use crate::ledger::Ledger;
 use crate::letters::Letter;
 use crate::lone_letter::Case;
+use crate::one_group;
 use crate::report::{ACCOUNT_BLOCK, LIMITS_BLOCK};
 
 /// Answers 0 to 22, blocks 23 and 24, answers 25 and 26.
@@ -63,6 +65,8 @@ pub struct Tally {
     /// Refusals to mark the marked bank again, and to mark another.
     marked_again: [u64; 2],
     fates: BTreeMap<Case, Fate>,
+    /// Payments by the number they got.
+    groups: BTreeMap<one_group::Case, [u64; NUMBERS]>,
 }
 
 impl Tally {
@@ -72,31 +76,45 @@ impl Tally {
         let mut answer = Vec::new();
         for line in list.split_inclusive(|&byte| byte == b'\n') {
             let line = line.strip_suffix(b"\n").unwrap_or(line);
+            let mut buffer = [0; LONGEST_FRAME];
+            let command = decode(line, &mut buffer).and_then(Command::read);
+            // The bank's limits speak before the payment moves anything.
+            let group = command
+                .as_ref()
+                .and_then(|command| one_group::Case::of(&ledger, command));
             answer.clear();
             ledger.line(line, &mut answer);
-            self.count_line(line, &answer, &ledger);
+            let number = self.count_answer(line, &answer);
+            if let Some(case) = group {
+                self.groups.entry(case).or_default()[number] += 1;
+            }
+            if let Some(command) = command {
+                self.count_command(&command, number, &ledger);
+            }
         }
     }
 
-    /// Counts a line, its answer and where it has led.
-    fn count_line(&mut self, line: &[u8], answer: &[u8], ledger: &Ledger) {
-        let Some((&[tens, ones], report)) = answer.split_first_chunk() else {
-            return;
-        };
+    /// Counts a line's answer and report; gives the answer's number.
+    fn count_answer(&mut self, line: &[u8], answer: &[u8]) -> usize {
+        let (&[tens, ones], report) = answer.split_first_chunk().expect("each line is answered");
         let kind = KINDS.iter().position(|kind| line.starts_with(kind.digits));
         let number = usize::from(tens - b'0') * 10 + usize::from(ones - b'0');
         self.lines += 1;
         self.add(kind, number);
         self.count_blocks(kind, report);
-        let mut buffer = [0; LONGEST_FRAME];
-        match decode(line, &mut buffer).and_then(Command::read) {
-            Some(Command::Payment {
+        number
+    }
+
+    /// Counts a command by its answer and by where it has led.
+    fn count_command(&mut self, command: &Command, number: usize, ledger: &Ledger) {
+        match *command {
+            Command::Payment {
                 transfer,
                 sender,
                 receiver,
                 ..
-            }) => self.count_payment(transfer, Case::of(ledger, sender, receiver), number),
-            Some(Command::Mark { code }) if number == BANK_MARKED => {
+            } => self.count_payment(transfer, Case::of(ledger, sender, receiver), number),
+            Command::Mark { code } if number == BANK_MARKED => {
                 let marked = ledger.central_bank();
                 let is_other = marked.is_none_or(|bank| bank.code != code);
                 self.marked_again[usize::from(is_other)] += 1;
@@ -149,11 +167,13 @@ impl Tally {
         let is_reached = |&count: &u64| count > 0;
         let mut kinds = self.kinds();
         let mut fates = self.fates();
+        let mut groups = self.groups();
         self.counts.iter().all(is_reached)
             && kinds.all(|(_, _, count)| count > 0)
             && self.shown.iter().all(is_reached)
             && self.marked_again.iter().all(is_reached)
             && fates.all(|(_, fate)| fate.is_reached())
+            && groups.all(|(_, _, count)| count > 0)
     }
 
     pub fn lines(&self) -> u64 {
@@ -189,6 +209,21 @@ impl Tally {
         let fate_of = |case: &Case| self.fates.get(case).copied().unwrap_or_default();
         let cases = Case::all().into_iter();
         cases.map(move |case| (case, fate_of(&case)))
+    }
+
+    /// Each case of a payment inside one group or out of it, each number that
+    /// must be reached, and its count.
+    pub fn groups(&self) -> impl Iterator<Item = (one_group::Case, usize, u64)> + '_ {
+        let cases = one_group::Case::all().into_iter();
+        cases.flat_map(move |case| {
+            let numbers = case.numbers().iter();
+            numbers.map(move |&number| (case, number, self.count_in(case, number)))
+        })
+    }
+
+    /// How many payments of the case got the number.
+    pub fn count_in(&self, case: one_group::Case, number: usize) -> u64 {
+        self.groups.get(&case).map_or(0, |counts| counts[number])
     }
 }
 

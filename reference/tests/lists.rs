@@ -5,11 +5,12 @@ use reference::frame::{decode, LONGEST_FRAME};
 use reference::generate::{generate, Workload};
 use reference::letters::Letter;
 use reference::lone_letter::{Case, Holder, Origin};
+use reference::one_group::{self, Verdict};
 use reference::stream::answers;
 use reference::tally::Tally;
 
-/// Seeds that choose each profile three times.
-const SEEDS: u64 = 27;
+/// Seeds that choose each profile six times.
+const SEEDS: u64 = 60;
 
 fn lines_in(text: &[u8]) -> usize {
     text.split_inclusive(|&byte| byte == b'\n').count()
@@ -98,13 +99,36 @@ fn the_profiles_reach_everything() {
             assert_eq!(blocked > 0, is_blocked, "{case}, {transfer:?}");
         }
     }
+    for (case, number, count) in tally.groups() {
+        assert!(count > 0, "{case}: {number}");
+    }
     assert!(tally.is_complete());
+}
+
+/// What the paper says of a payment that the limits of the payer's bank are
+/// against: 9 or 10 if it leaves the group, unless letters stop it before.
+#[test]
+fn limits_of_a_bank_hold_outside_alone() {
+    let tally = reached();
+    for case in one_group::Case::all() {
+        let count = |number| tally.count_in(case, number);
+        let refused = match case.verdict {
+            _ if case.way.is_inside() => None,
+            Verdict::Passes => None,
+            Verdict::BelowZero | Verdict::BelowLtk => Some(9),
+            Verdict::OverLpo => Some(10),
+        };
+        for number in [9, 10] {
+            assert_eq!(count(number) > 0, refused == Some(number), "{case}");
+        }
+        assert_eq!(count(0) == 0, refused.is_some(), "{case}");
+    }
 }
 
 #[test]
 fn letters_block_less_than_is_accepted() {
     let (mut accepted, mut blocked) = (0, 0);
-    for seed in 0..SEEDS / 3 {
+    for seed in 0..SEEDS / 6 {
         let list = generate(seed, 3_000, Workload::All);
         for (line, answer) in lines_of(&list).zip(lines_of(&answers(&list))) {
             let is_payment = line.starts_with(b"06");

@@ -94,6 +94,9 @@ impl Summary {
         for (case, fate) in tally.fates() {
             print_fate(case, fate);
         }
+        for (case, number, count) in tally.groups() {
+            println!("{case}, {} {number:2}: {count}", name(number));
+        }
         if !tally.is_complete() {
             println!("not every answer, block and case was reached");
         }

@@ -28,7 +28,7 @@ impl Scenario {
         }
     }
 
-    fn letter(&mut self) -> u8 {
+    pub fn letter(&mut self) -> u8 {
         self.random.pick(&[A, B, N, N, S, R])
     }
 
@@ -82,7 +82,7 @@ impl Scenario {
     }
 
     /// The account itself, or as often one of its branches.
-    fn in_group(&mut self, code: u32) -> u32 {
+    pub fn in_group(&mut self, code: u32) -> u32 {
         match self.branches_of(code)[..] {
             ref branches @ [_, ..] if self.random.percent(50) => self.random.pick(branches),
             _ => code,

@@ -1,6 +1,7 @@
 //! Random lists of lines, the same for the same seed.
 
 mod damage;
+mod groups;
 mod letters;
 mod messages;
 mod profiles;

@@ -26,6 +26,8 @@ struct Weights {
     mark: usize,
     /// A letter, payments that meet it, and its end.
     blocking: usize,
+    /// A bank that lets little out, and payments inside its group.
+    tight_group: usize,
     damaged: usize,
     noise: usize,
 }
@@ -68,12 +70,13 @@ const GENERAL: Profile = Profile {
         letters: 10,
         mark: 1,
         blocking: 5,
+        tight_group: 5,
         damaged: 30,
         noise: 10,
     },
 };
 
-static PROFILES: [Profile; 9] = [
+static PROFILES: [Profile; 10] = [
     GENERAL,
     Profile {
         name: "full table",
@@ -186,6 +189,26 @@ static PROFILES: [Profile; 9] = [
         ..GENERAL
     },
     Profile {
+        name: "groups",
+        banks: 2,
+        branches: 4,
+        flaws: 2,
+        large: 60,
+        weights: Weights {
+            bank: 1,
+            branch: 1,
+            payment: 100,
+            change: 10,
+            deletion: 60,
+            query: 10,
+            day_opening: 1,
+            search: 40,
+            tight_group: 400,
+            ..GENERAL.weights
+        },
+        ..GENERAL
+    },
+    Profile {
         name: "garbage",
         flaws: 20,
         weights: Weights {
@@ -274,6 +297,7 @@ fn step(scenario: &mut Scenario, weights: &Weights) {
         weights.damaged,
         weights.noise,
         weights.blocking,
+        weights.tight_group,
         weights.bank,
         weights.branch,
         weights.funding,
@@ -301,8 +325,9 @@ fn step(scenario: &mut Scenario, weights: &Weights) {
             scenario.put_line(&line);
         }
         2 => scenario.blocking(),
+        3 => scenario.tight_group(),
         kind => {
-            let frame = frame_of(scenario, kind - 3);
+            let frame = frame_of(scenario, kind - 4);
             scenario.put(&frame);
         }
     }

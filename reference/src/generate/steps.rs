@@ -119,6 +119,11 @@ impl Scenario {
             receiver = self.party();
         }
         let transfer = self.random.pick(&[CREDIT, CREDIT, DEBIT]);
+        self.payment_between(transfer, sender, receiver)
+    }
+
+    /// Of an amount near what some limit or turnover allows.
+    pub fn payment_between(&mut self, transfer: u8, sender: u32, receiver: u32) -> Vec<u8> {
         let rooms = self.rooms(transfer, sender, receiver);
         let room = self.random.pick(&rooms);
         let amount = self.amount_near(room);
