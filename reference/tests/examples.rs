@@ -1,6 +1,7 @@
 //! Every example of the list gets its answer, and the list shows everything.
 
 use reference::examples;
+use reference::one_group::Case;
 use reference::stream;
 use reference::tally::Tally;
 
@@ -44,6 +45,27 @@ fn each_letter_is_shown_on_each_side() {
         assert!(fate.is_reached(), "{case}");
     }
     assert!(tally.marked_again().iter().all(|&count| count > 0));
+}
+
+#[test]
+fn each_answer_is_shown_inside_one_group() {
+    let mut tally = Tally::default();
+    tally.count(&examples::list());
+    for (case, number, count) in tally.groups() {
+        assert!(count > 0, "{case}: {number}");
+    }
+}
+
+#[test]
+fn payments_that_get_9_or_10_leave_their_group() {
+    let mut tally = Tally::default();
+    tally.count(&examples::list());
+    for case in Case::all() {
+        if case.way.is_inside() {
+            assert_eq!(tally.count_in(case, 9), 0, "{case}");
+            assert_eq!(tally.count_in(case, 10), 0, "{case}");
+        }
+    }
 }
 
 #[test]

@@ -1,6 +1,7 @@
 //! The tops: total of all banks, turnover, book and table.
 
-use super::{example, header, item, query_of, Example, HEAD, NOBODY, POOR, RICH};
+use super::{example, header, item, query_of, Example};
+use super::{HEAD, NOBODY, POOR, POOR_BRANCH, RICH};
 use crate::account::TOP_VALUE;
 use crate::book;
 use crate::ledger::MOST_ACCOUNTS;
@@ -36,6 +37,9 @@ pub fn turnover() -> Vec<Example> {
         example(25, "25 before 8", pay(1)),
         example(0, "no letter", letters(RICH, 0)),
         example(11, "11 before 8", payment(CREDIT, 888_012, POOR, 1)),
+        example(8, "RCDT inside", payment(CREDIT, POOR, POOR_BRANCH, 1)),
+        example(8, "to the bank", payment(CREDIT, POOR_BRANCH, POOR, 1)),
+        example(0, "a debit inside", payment(DEBIT, POOR_BRANCH, POOR, 1)),
         example(0, "a debit", payment(DEBIT, POOR, RICH, TOP_VALUE)),
         example(0, "credits the other way", payment(CREDIT, POOR, RICH, 1)),
         example(0, "day 11", day_opening(11)),
@@ -82,14 +86,14 @@ pub fn book() -> Vec<Example> {
     opening.into_iter().chain(fillings).chain(top).collect()
 }
 
-/// 17 accounts stand; the table is filled with banks.
+/// 22 accounts stand; the table is filled with banks on day 19.
 pub fn table() -> Vec<Example> {
-    const STANDING: usize = 17;
+    const STANDING: usize = 22;
     let banks = (100_000..).take(MOST_ACCOUNTS - STANDING);
     let last = 99_999 + (MOST_ACCOUNTS - STANDING) as u32;
     let seek_all = |sender: u32, id: u32| {
         let (mode, text) = (LACKS, b"x".to_vec());
-        search(&header(sender, id, 14, 0), &[Sought { mode, text }])
+        search(&header(sender, id, 19, 0), &[Sought { mode, text }])
     };
     let openings = banks.map(|code| example(0, "one more bank", bank(code)));
     let top = [
@@ -100,7 +104,7 @@ pub fn table() -> Vec<Example> {
         example(5, "5 before 3", branch(200_000, 888_001, [0, 0])),
         example(0, "888888 finds 64 accounts", seek_all(HEAD, 3_000)),
         example(0, "the last account finds them", seek_all(last, 3_001)),
-        example(0, "last line, without its end", day_opening(15)),
+        example(0, "last line, without its end", day_opening(20)),
     ];
     openings.chain(top).collect()
 }

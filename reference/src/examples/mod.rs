@@ -4,6 +4,7 @@
 mod answers;
 mod figures;
 mod fillings;
+mod groups;
 mod letters;
 mod messages;
 mod searches;
@@ -45,6 +46,15 @@ pub fn all() -> Vec<Example> {
         letters::next_day(),
         fillings::turnover(),
         fillings::book(),
+        groups::nothing_in_the_bank(),
+        groups::limits_of_branches(),
+        groups::state_of_the_bank(),
+        groups::lpo_of_the_bank(),
+        groups::letters_inside(),
+        groups::each_answer(),
+        groups::turnover(),
+        groups::next_day(),
+        groups::first_bank(),
         fillings::table(),
     ];
     parts.into_iter().flatten().collect()
