@@ -18,7 +18,7 @@ use Rattle.rules.proofs.Checks.{passed, by-answer}
 use Rattle.rules.proofs.Ledger.{inflow, outflow, balance-is, payer-known, payee-known}
 use Rattle.rules.proofs.Payments.{balance-reads}
 
--- n out and n in, or neither
+-- n out and n in leave the balance as it was, and so does neither
 balance-both : (credit both : Bool) (n : ℕ) (t : Turnovers) → balance (paidOf credit both both n t) ≡ balance t
 balance-both credit false n t = refl
 balance-both credit true n t =
@@ -44,10 +44,10 @@ state-inside credit n p q xs w kp kq one c b =
     ∙ by-balance (x .owner) (x .start) _ (x .turnovers) (balance-both credit (touches p c xs) n (x .turnovers))
 
 -- sender and receiver share one bank, and so do payer and payee
-one-of-both : (credit : Bool) (s r : ℕ) (xs : List Account) → bankOf s xs ≡ bankOf r xs → bankOf (payer credit s r) xs ≡ bankOf (payee credit s r) xs
+pub both-one : (credit : Bool) (s r : ℕ) (xs : List Account) → bankOf s xs ≡ bankOf r xs → bankOf (payer credit s r) xs ≡ bankOf (payee credit s r) xs
 unfolding payer payee
-one-of-both true s r xs e = e
-one-of-both false s r xs e = sym e
+both-one true s r xs e = e
+both-one false s r xs e = sym e
 
 -- of the call, whatever its answer
 pub banks-kept : (m : Machine) (room way s r : ℕ) (a : ℤ) → Invariant m → bankOf s (m .accounts) ≡ bankOf r (m .accounts) → (c : ℕ) → T (isBank (at c (m .accounts)))
@@ -57,4 +57,4 @@ banks-kept m room way s r a v one c b =
     let xs : List Account = m .accounts in
     by-answer (λ n m′. state (at c (m′ .accounts)) ≡ state (at c xs)) m (record { command = Payment way s r a; room = room }) (λ n. refl)
     (λ e. state-inside (isCredit way) (natAbs a) (payer (isCredit way) s r) (payee (isCredit way) s r) xs (v .owned)
-    (payer-known (isCredit way) s r xs (passed 4 _ tt e)) (payee-known (isCredit way) s r xs (passed 4 _ tt e)) (one-of-both (isCredit way) s r xs one) c b)
+    (payer-known (isCredit way) s r xs (passed 4 _ tt e)) (payee-known (isCredit way) s r xs (passed 4 _ tt e)) (both-one (isCredit way) s r xs one) c b)
