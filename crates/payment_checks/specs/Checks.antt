@@ -14,6 +14,6 @@ use Rattle.payment_letters.specs.Sides.{sidesPass}
 unfoldable pub earlyChecks : ℕ → ℕ → ℕ → ℤ → Bool → List (ℕ × Bool)
 earlyChecks w s r a known = (1, wellFormed (Payment w s r a)) ∷ (4, known) ∷ (7, not (eqb s r)) ∷ (6, isAmount a) ∷ []
 
--- the other checks, of the payer x with its bank b and the payee y with its bank d: inside one group the two banks are one account
+-- the other checks, of the payer x with its bank b and the payee y with its bank d: inside one group, where b and d have one code
 unfoldable pub partyChecks : Bool → ℕ → Account → Account → Account → Account → List (ℕ × Bool)
 partyChecks credit n x b y d = (25, sidesPass credit x b y d) ∷ conditionChecks credit n (eqb (b .code) (d .code)) x b y d

@@ -1,18 +1,20 @@
--- Money inside one group: what leaves the bank's account comes back to it, so no bank's state moves. Assumes nothing.
-use mathlib.Core.Path.{_≡_, refl, sym, ap, _∙_}
+-- Money inside one group: what leaves the bank's account comes back to it, so no bank's state moves, and both are booked. Assumes nothing.
+use mathlib.Core.Path.{_≡_, refl, sym, ap, ap₂, _∙_, subst}
 use mathlib.Core.Bool.{Bool, true, false}
 use mathlib.Core.List.{List}
 use mathlib.Core.Option.{Option, none, some}
 use Prim.Native.Nat.{ℕ, _+_}
 use native.Mathlib.Omega.{arith}
 use lib.IntN.{ℤ, natAbs, _+ℤ_}
-use lib.Dec.{T, eqb}
+use lib.Dec.{T, eqb, eqb-refl}
 use Rattle.amount.proofs.Integer.{difference-is}
-use Rattle.rules.specs.Account.{Turnovers, Account, balance, stateOf, state, isBank, withTurnovers, known, at}
-use Rattle.rules.specs.Command.{Payment}
+use Rattle.rules.specs.Account.{Turnovers, Account, balance, stateOf, state, isBank, turnover, raise, withTurnovers, known, at}
+use Rattle.rules.specs.Command.{Payment, Call}
+use Rattle.rules.specs.Demand.{InsideGroup}
 use Rattle.rules.specs.Invariant.{Owned, Invariant}
 use Rattle.rules.specs.Machine.{Machine, withAccounts, checks, effect, answer, next}
-use Rattle.rules.specs.Payment.{isCredit, payer, payee, bankOf, paymentChecks, pay}
+use Rattle.rules.specs.Payment.{isCredit, payer, payee, outTurnover, inTurnover, bankOf, paymentChecks, pay}
+use Rattle.rules.proofs.Bools.{is-true, or-l}
 use Rattle.rules.proofs.Branches.{touches, touches-bank, at-pay, paidOf, in-paid, out-paid}
 use Rattle.rules.proofs.Checks.{passed, by-answer}
 use Rattle.rules.proofs.Ledger.{inflow, outflow, balance-is, payer-known, payee-known}
@@ -33,28 +35,66 @@ unfolding stateOf
 by-balance none s t u e = ap (λ z. s +ℤ z) e
 by-balance (some b) s t u e = e
 
-state-inside : (credit : Bool) (n p q : ℕ) (xs : List Account) → Owned xs → T (known p xs) → T (known q xs) → bankOf p xs ≡ bankOf q xs
-    → (c : ℕ) → T (isBank (at c xs)) → state (at c (pay credit n p q xs)) ≡ state (at c xs)
-unfolding state withTurnovers
-state-inside credit n p q xs w kp kq one c b =
-    let x : Account = at c xs in
-    let same : touches q c xs ≡ touches p c xs = touches-bank q c xs b ∙ ap (λ z. eqb z c) (sym one) ∙ sym (touches-bank p c xs b) in
-    ap state (at-pay credit n p q c xs w kp kq)
-    ∙ ap (λ g. stateOf (x .owner) (x .start) (paidOf credit (touches p c xs) g n (x .turnovers))) same
-    ∙ by-balance (x .owner) (x .start) _ (x .turnovers) (balance-both credit (touches p c xs) n (x .turnovers))
+-- n out and n in are both booked
+raised-both : (credit : Bool) (n : ℕ) (t : Turnovers)
+    → (turnover (outTurnover credit) (paidOf credit true true n t) ≡ turnover (outTurnover credit) t + n)
+    × (turnover (inTurnover credit) (paidOf credit true true n t) ≡ turnover (inTurnover credit) t + n)
+unfolding turnover raise outTurnover inTurnover
+raised-both true n t = (refl, refl)
+raised-both false n t = (refl, refl)
 
--- sender and receiver share one bank, and so do payer and payee
-pub both-one : (credit : Bool) (s r : ℕ) (xs : List Account) → bankOf s xs ≡ bankOf r xs → bankOf (payer credit s r) xs ≡ bankOf (payee credit s r) xs
+-- where both parties have the bank b
+module _ (credit : Bool) (n p q b : ℕ) (xs : List Account) (w : Owned xs) (kp : T (known p xs)) (kq : T (known q xs)) (ep : bankOf p xs ≡ b) (eq : bankOf q xs ≡ b) where
+  state-inside : (c : ℕ) → T (isBank (at c xs)) → state (at c (pay credit n p q xs)) ≡ state (at c xs)
+  unfolding state withTurnovers
+  state-inside c h =
+      let x : Account = at c xs in
+      let same : touches q c xs ≡ touches p c xs = touches-bank q c xs h ∙ ap (λ z. eqb z c) (eq ∙ sym ep) ∙ sym (touches-bank p c xs h) in
+      ap state (at-pay credit n p q c xs w kp kq)
+      ∙ ap (λ g. stateOf (x .owner) (x .start) (paidOf credit (touches p c xs) g n (x .turnovers))) same
+      ∙ by-balance (x .owner) (x .start) _ (x .turnovers) (balance-both credit (touches p c xs) n (x .turnovers))
+
+  turned-inside : (at b (pay credit n p q xs)) .turnovers ≡ paidOf credit true true n ((at b xs) .turnovers)
+  unfolding withTurnovers
+  turned-inside =
+      ap (λ (x : Account). x .turnovers) (at-pay credit n p q b xs w kp kq)
+      ∙ ap₂ (λ u v. paidOf credit u v n ((at b xs) .turnovers)) (touched p ep) (touched q eq)
+    where
+      touched : (d : ℕ) → bankOf d xs ≡ b → touches d b xs ≡ true
+      touched d e = is-true (touches d b xs) (or-l (eqb (bankOf d xs) b) _ (subst (λ z. T (eqb z b)) (sym e) (eqb-refl b)))
+
+-- where sender and receiver share one bank, payer and payee have it too
+pub banks-of : (credit : Bool) (s r : ℕ) (xs : List Account) → bankOf s xs ≡ bankOf r xs
+    → (bankOf (payer credit s r) xs ≡ bankOf s xs) × (bankOf (payee credit s r) xs ≡ bankOf s xs)
 unfolding payer payee
-both-one true s r xs e = e
-both-one false s r xs e = sym e
+banks-of true s r xs e = (refl, sym e)
+banks-of false s r xs e = (sym e, refl)
 
--- of the call, whatever its answer
-pub banks-kept : (m : Machine) (room way s r : ℕ) (a : ℤ) → Invariant m → bankOf s (m .accounts) ≡ bankOf r (m .accounts) → (c : ℕ) → T (isBank (at c (m .accounts)))
-    → state (at c ((next m (record { command = Payment way s r a; room = room })) .accounts)) ≡ state (at c (m .accounts))
+-- of the call
+pub inside-group : (m : Machine) (room way s r : ℕ) (a : ℤ) → Invariant m → bankOf s (m .accounts) ≡ bankOf r (m .accounts)
+    → let k : Call = record { command = Payment way s r a; room = room } in
+    InsideGroup (m .accounts) ((next m k) .accounts) (answer m k) way (natAbs a) (bankOf s (m .accounts))
 unfolding answer checks effect withAccounts paymentChecks
-banks-kept m room way s r a v one c b =
-    let xs : List Account = m .accounts in
-    by-answer (λ n m′. state (at c (m′ .accounts)) ≡ state (at c xs)) m (record { command = Payment way s r a; room = room }) (λ n. refl)
-    (λ e. state-inside (isCredit way) (natAbs a) (payer (isCredit way) s r) (payee (isCredit way) s r) xs (v .owned)
-    (payer-known (isCredit way) s r xs (passed 4 _ tt e)) (payee-known (isCredit way) s r xs (passed 4 _ tt e)) (both-one (isCredit way) s r xs one) c b)
+inside-group m room way s r a v one =
+    by-answer (λ n m′. InsideGroup xs (m′ .accounts) n way (natAbs a) (bankOf s xs)) m (record { command = Payment way s r a; room = room })
+    (λ n. record { states-kept = λ c h. refl; out-raised = λ e. absurd (omega arith); in-raised = λ e. absurd (omega arith) })
+    (λ e. let kp = payer-known (isCredit way) s r xs (passed 4 _ tt e) in
+    let kq = payee-known (isCredit way) s r xs (passed 4 _ tt e) in
+    let t = turned-inside (isCredit way) (natAbs a) p q (bankOf s xs) xs (v .owned) kp kq (b .0) (b .1) in
+    record {
+      states-kept = state-inside (isCredit way) (natAbs a) p q (bankOf s xs) xs (v .owned) kp kq (b .0) (b .1);
+      out-raised = λ z. ap (turnover (outTurnover (isCredit way))) t ∙ raised-both (isCredit way) (natAbs a) ((at (bankOf s xs) xs) .turnovers) .0;
+      in-raised = λ z. ap (turnover (inTurnover (isCredit way))) t ∙ raised-both (isCredit way) (natAbs a) ((at (bankOf s xs) xs) .turnovers) .1;
+    })
+  where
+    xs : List Account
+    xs = m .accounts
+
+    p : ℕ
+    p = payer (isCredit way) s r
+
+    q : ℕ
+    q = payee (isCredit way) s r
+
+    b : (bankOf p xs ≡ bankOf s xs) × (bankOf q xs ≡ bankOf s xs)
+    b = banks-of (isCredit way) s r xs one
