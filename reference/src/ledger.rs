@@ -69,6 +69,11 @@ impl Ledger {
         Some(&self.accounts[place])
     }
 
+    /// The bank that owns a branch.
+    pub fn owner_of(&self, account: &Account) -> Option<&Account> {
+        account.owner.map(|owner| &self.accounts[owner])
+    }
+
     /// The bank marked as the central bank.
     pub fn central_bank(&self) -> Option<&Account> {
         self.central.map(|place| &self.accounts[place])

@@ -76,9 +76,9 @@ impl Case {
         let receiver = ledger.account(receiver)?;
         let holders = [
             (Holder::Sender, Some(sender)),
-            (Holder::SendersBank, owner_of(ledger, sender)),
+            (Holder::SendersBank, ledger.owner_of(sender)),
             (Holder::Receiver, Some(receiver)),
-            (Holder::ReceiversBank, owner_of(ledger, receiver)),
+            (Holder::ReceiversBank, ledger.owner_of(receiver)),
         ];
         let mut standing = Vec::new();
         for (holder, account) in holders {
@@ -92,10 +92,6 @@ impl Case {
     }
 }
 
-fn owner_of<'a>(ledger: &'a Ledger, account: &Account) -> Option<&'a Account> {
-    account.owner.map(|owner| &ledger.accounts()[owner])
-}
-
 fn origin_of(ledger: &Ledger, sender: &Account) -> Origin {
     let is_marked = |account: &Account| {
         let marked = ledger.central_bank();
@@ -105,7 +101,7 @@ fn origin_of(ledger: &Ledger, sender: &Account) -> Origin {
         Origin::NoneMarked
     } else if is_marked(sender) {
         Origin::MarkedBank
-    } else if owner_of(ledger, sender).is_some_and(is_marked) {
+    } else if ledger.owner_of(sender).is_some_and(is_marked) {
         Origin::BranchOfMarked
     } else {
         Origin::Stranger

@@ -153,10 +153,7 @@ impl Case {
 
 /// The bank behind an account.
 fn bank_of<'a>(ledger: &'a Ledger, account: &'a Account) -> &'a Account {
-    match account.owner {
-        Some(owner) => &ledger.accounts()[owner],
-        None => account,
-    }
+    ledger.owner_of(account).unwrap_or(account)
 }
 
 impl fmt::Display for Case {
