@@ -1,4 +1,6 @@
 // Bytes written as lowercase hexadecimal digits, two to a byte.
+#![tactic(auto)]
+
 ghost use Rattle.std.specs.Prelude.{◌≡◌, ◌+◌, ◌*◌, ◌<◌, ◌≤◌, length, take};
 ghost use Rattle.octets.specs.Octets.{write};
 ghost use Rattle.frame.specs.Hex.{hex_digit, hex};
