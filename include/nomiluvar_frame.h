@@ -1,9 +1,9 @@
 /*
  * Nomiluvar: the frame reader, for a shell written in C on x86-64 Linux.
  *
- * `rt staticlib frame_reader` proves the reader and writes target/staticlib/libframe_reader.a; link with that archive. It needs
+ * `tools/archive` proves the reader and writes target/staticlib/libframe_reader.a; link with that archive. It needs
  * memcpy and memset, at link time and at run time, and nothing else: no other library, no heap, no file and no call
- * of the system. A call takes about 530 bytes of stack, and what memcpy and memset take.
+ * of the system. A call takes about 560 bytes of stack, and what memcpy and memset take.
  */
 #ifndef NOMILUVAR_FRAME_H
 #define NOMILUVAR_FRAME_H

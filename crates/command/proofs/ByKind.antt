@@ -9,7 +9,7 @@ use Rattle.octets.proofs.Numbers.{both}
 use Rattle.frame.specs.Field.{Field, width, may, are_fields}
 use Rattle.frame.specs.Frame.{Kind, kind_byte, fields_of, layout, is_frame, commands_of}
 use Rattle.frame.proofs.Fields.{fields_within}
-pub use Rattle.frame.proofs.Commands.{kind-fields, kind-command}
+pub use Rattle.frame.proofs.Commands.{kind_fields, kind_command}
 use Rattle.command.specs.declared.Command.{Command as Ordered}
 use Rattle.command.specs.declared.Order.{Order}
 use Rattle.command.specs.View.{to_commands, ordered}
@@ -36,7 +36,7 @@ frame_none b h = rw h
 
 -- where a known kind's fields end
 pub kind_length : (k : Kind) (b : List ℕ) → is_frame b ≡ true → get_or b 0 0 ≡ kind_byte k → length b ≡ end (fields_of k) b 1
-kind_length k b h e = fields_end (fields_of k) b 1 (kind-fields k b h e)
+kind_length k b h e = fields_end (fields_of k) b 1 (kind_fields k b h e)
 
 -- ---- an order by its command
 

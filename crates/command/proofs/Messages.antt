@@ -22,7 +22,7 @@ use Rattle.frame.specs.Frame.{K07, K08, K09, kind_byte, item_row, id_row, fields
 use Rattle.command.specs.declared.Header.{Header}
 use Rattle.command.specs.declared.Command.TheVariants.{Change, Deletion, Query}
 use Rattle.command.specs.View.{to_header, items_from, ids_from, to_commands}
-use Rattle.command.proofs.ByKind.{end, kind-fields, kind_length, kind-command}
+use Rattle.command.proofs.ByKind.{end, kind_fields, kind_length, kind_command}
 
 -- ---- rows by their places
 
@@ -114,11 +114,11 @@ rows_range b row p q h =
 module _ (b : List ℕ) (good : is_frame b ≡ true) where
   pub change_rows : get_or b 0 0 ≡ 7 → RowsAt b 19
   unfolding kind_byte fields_of are_fields may width size row_size
-  change_rows e = rows_range b 19 (six_digits b 1) (leb (word_at b 43) 86399) (kind-fields K07 b good e)
+  change_rows e = rows_range b 19 (six_digits b 1) (leb (word_at b 43) 86399) (kind_fields K07 b good e)
 
   pub query_rows : get_or b 0 0 ≡ 9 → RowsAt b 10
   unfolding kind_byte fields_of are_fields may width size row_size
-  query_rows e = rows_range b 10 (six_digits b 1) (leb (word_at b 43) 86399) (kind-fields K09 b good e)
+  query_rows e = rows_range b 10 (six_digits b 1) (leb (word_at b 43) 86399) (kind_fields K09 b good e)
 
   pub deletion_length : get_or b 0 0 ≡ 8 → length b ≡ 58
   unfolding kind_byte fields_of end width size
@@ -132,7 +132,7 @@ module _ (b : List ℕ) (good : is_frame b ≡ true) where
         let r : Rule.Deletion (to_header h id) (part 0 10 a) u
         ≡ Rule.Deletion (header_of (decimal 0 (part 1 6 b)) (part 7 32 b) (number (part 39 4 b)) (number (part 43 4 b))) (part 47 10 b) (number (part 57 1 b)) =
         λ j. Rule.Deletion (header_is b id h head same j) (f j) (n j) in
-        ap (λ (c : Rule.Command). c ∷ []) r ∙ sym (kind-command K08 b good e)
+        ap (λ (c : Rule.Command). c ∷ []) r ∙ sym (kind_command K08 b good e)
 
     pub change_held : (n : ℕ) → get_or b 0 0 ≡ 7 → n ≡ get_or b 47 0 → ItemsAt b a t v n → to_commands (Change h n) id a t v ≡ commands_of b
     unfolding to_commands kind_byte fields_of command_of all_values value_of plain_value width size row_size
@@ -141,7 +141,7 @@ module _ (b : List ℕ) (good : is_frame b ≡ true) where
         let z : n ≡ 0 + n = omega arith in
         let items = items_are b a t v 0 n (omega (arith, r.whole)) (rw z at g) in
         let rows = ap (λ (k : ℕ). map item_of (rows_value item_row k (drop 48 b))) f ∙ ap (map item_of) (sym (rows_held item_row b (get_or b 47 0 * 19) r.whole)) in
-        ap (λ (c : Rule.Command). c ∷ []) (ap₂ Rule.Change (header_is b id h head same) (items ∙ rows)) ∙ sym (kind-command K07 b good e)
+        ap (λ (c : Rule.Command). c ∷ []) (ap₂ Rule.Change (header_is b id h head same) (items ∙ rows)) ∙ sym (kind_command K07 b good e)
 
     pub query_held : (n : ℕ) → get_or b 0 0 ≡ 9 → n ≡ get_or b 47 0 → ((k : ℕ) → k < n → part (k * 10) 10 a ≡ part (48 + k * 10) 10 b) → to_commands (Query h n) id a t v ≡ commands_of b
     unfolding to_commands kind_byte fields_of command_of all_values value_of plain_value width size row_size
@@ -150,4 +150,4 @@ module _ (b : List ℕ) (good : is_frame b ≡ true) where
         let z : n ≡ 0 + n = omega arith in
         let ids = ids_are b a 0 n (omega (arith, r.whole)) (rw z at g) in
         let rows = ap (λ (k : ℕ). map id_of (rows_value id_row k (drop 48 b))) f ∙ ap (map id_of) (sym (rows_held id_row b (get_or b 47 0 * 10) r.whole)) in
-        ap (λ (c : Rule.Command). c ∷ []) (ap₂ Rule.Query (header_is b id h head same) (ids ∙ rows)) ∙ sym (kind-command K09 b good e)
+        ap (λ (c : Rule.Command). c ∷ []) (ap₂ Rule.Query (header_is b id h head same) (ids ∙ rows)) ∙ sym (kind_command K09 b good e)

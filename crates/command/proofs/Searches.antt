@@ -22,7 +22,7 @@ use Rattle.frame.proofs.Texts.{conditions_append, conditions_most}
 use Rattle.command.specs.declared.Header.{Header}
 use Rattle.command.specs.declared.Command.TheVariants.{Search}
 use Rattle.command.specs.View.{to_commands}
-use Rattle.command.proofs.ByKind.{kind-fields, kind-command}
+use Rattle.command.proofs.ByKind.{kind_fields, kind_command}
 use Rattle.command.proofs.Messages.{HeaderAt, header_is, rows_whole}
 
 -- so many conditions behind the count at 47, and nothing behind them
@@ -53,7 +53,7 @@ search_range b p q h =
 module _ (b : List ℕ) (good : is_frame b ≡ true) (e : get_or b 0 0 ≡ 11) where
   pub search_at : SearchAt b
   unfolding kind_byte fields_of are_fields may width size
-  search_at = search_range b (six_digits b 1) (leb (word_at b 43) 86399) (kind-fields K0b b good e)
+  search_at = search_range b (six_digits b 1) (leb (word_at b 43) 86399) (kind_fields K0b b good e)
 
   -- the conditions in an array that begins with their bytes
   pub kept : (a : List ℕ) → part 0 (length b - 48) a ≡ drop 48 b → conditions_in (get_or b 47 0) a ≡ conditions_in (get_or b 47 0) (drop 48 b)
@@ -76,7 +76,7 @@ module _ (b : List ℕ) (good : is_frame b ≡ true) (e : get_or b 0 0 ≡ 11) w
       let w = conditions_width (get_or b 47 0) (drop 48 b) in
       ap (λ (k : Rule.Command). k ∷ [])
       (ap₂ Rule.Search (header_is b id h head same) (ap (λ (k : ℕ). conditions_in k a) c ∙ kept a f ∙ sym (held w search_at.whole)))
-      ∙ sym (kind-command K0b b good e)
+      ∙ sym (kind_command K0b b good e)
 
 -- all that stands behind the count, copied to the beginning of an array
 pub copied : (b l m : List ℕ) (n : ℕ) → m ≡ write l 0 (part 48 n b) → n ≡ length b - 48 → 48 ≤ length b → length b - 48 ≤ length l → part 0 (length b - 48) m ≡ drop 48 b

@@ -1,4 +1,6 @@
 // Commands as values, parsed from a frame.
+#![tactic(auto)]
+
 ghost use Rattle.std.specs.Prelude.{◌≡◌, true, ◌&&◌, ℕ, ◌+◌, ◌-◌, ◌*◌, ◌≤◌, ◌<◌, length, drop, get_or, pos, leb};
 ghost use Rattle.octets.specs.Octets.{number, signed, part};
 ghost use Rattle.rules.specs.Command.{is_code};
@@ -13,7 +15,7 @@ use rules::is_code;
 use slices::copy;
 
 // Of a message: sender code, creation day and second; the id stands in the order's array.
-#[derive(Drop)]
+#[derive(Clone, Copy)]
 pub struct Header {
     pub sender: u32,
     pub day: u32,
@@ -21,7 +23,7 @@ pub struct Header {
 }
 
 // One variant for each kind, 01 to 0c and 13. What is an array stands beside it, in the order.
-#[derive(Drop)]
+#[derive(Clone, Copy)]
 pub enum Command {
     Nothing,
     Bank(u32),

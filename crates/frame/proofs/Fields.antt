@@ -6,7 +6,7 @@ use mathlib.Core.List.{List, [], ◌∷◌, ◌++◌, append_assoc, append-nil}
 use Prim.Native.Nat.{ℕ, ◌+◌, ◌*◌, ◌^◌, ◌<◌, ◌≤◌}
 use native.Mathlib.Omega.{arith}
 use lib.ListN.{length, take, drop, get_or, length-append, length-drop, take-append-drop, drop_of_length-le, get_or-append}
-use lib.Seq.{take_at, drop-cons, drop-append_seam, drop-drop, get_or-append-add, get_or-take, get_or_drop}
+use lib.Seq.{take_at, drop-cons, drop-append_seam, drop-drop, get_or-append-add, get_or-take, get_or-drop}
 use lib.Dec.{leb, ltb}
 use borrow.Author.Tests.{ltb-true, leb-true, eqb-true, lt-ltb, eq-eqb}
 use Rattle.octets.specs.Octets.{big_endian, number_from, number, are_bytes, is_bytes, part}
@@ -167,7 +167,7 @@ module _ (b v : List ℕ) (i : ℕ) (same : (k : ℕ) → k < length v → get_o
       later : (k : ℕ) → k < length (drop 1 v) → get_or (drop (i + 1) b) k 0 ≡ get_or (drop 1 v) k 0
       later k h =
           let s : i + 1 + k ≡ i + (1 + k) = omega arith in
-          get_or_drop (i + 1) b k 0 ∙ ap (λ (j : ℕ). get_or b j 0) s ∙ same (1 + k) (omega (arith, length-drop 1 v)) ∙ sym (get_or_drop 1 v k 0)
+          get_or-drop (i + 1) b k 0 ∙ ap (λ (j : ℕ). get_or b j 0) s ∙ same (1 + k) (omega (arith, length-drop 1 v)) ∙ sym (get_or-drop 1 v k 0)
 
       go : get_or b i 0 ≡ get_or v 0 0 → Ends b v i Conditions
           → (conditions_width (get_or v 0 0) (drop 1 v) ≤ length (drop 1 v)) ⊎ (conditions_width (get_or v 0 0) (drop (i + 1) b) ≤ length (drop 1 v))
@@ -274,7 +274,7 @@ module _ (f : Field) (b : List ℕ) (i : ℕ) (a : are_bytes b ≡ true) (h : ma
 
   same_here : (k : ℕ) → k < length here → get_or b (i + k) 0 ≡ get_or here k 0
   unfolding here part
-  same_here k g = sym (get_or-take (width f b i) (drop i b) k 0 (omega (arith, part_length i (width f b i) b l)) ∙ get_or_drop i b k 0)
+  same_here k g = sym (get_or-take (width f b i) (drop i b) k 0 (omega (arith, part_length i (width f b i) b l)) ∙ get_or-drop i b k 0)
 
   enough_here : Ends b here i f
   unfolding here

@@ -1,4 +1,6 @@
 // Whether bytes are a frame.
+#![tactic(auto)]
+
 ghost use Rattle.std.specs.Prelude.{◌≡◌, cond, [], length};
 ghost use Rattle.frame.specs.Frame.{is_frame};
 

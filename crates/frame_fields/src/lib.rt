@@ -1,4 +1,6 @@
 // The tests of a frame's fields, each at its place. A byte past the end reads as 0.
+#![tactic(auto)]
+
 ghost use Rattle.std.specs.Prelude.{◌≡◌, cond, ◌&&◌, ◌+◌, ◌*◌, ◌≤◌, ◌<◌, length, drop, get_or, leb, eqb};
 ghost use Rattle.rules.specs.Command.{is_count, is_few};
 ghost use Rattle.rules.specs.Message.{is_digit};

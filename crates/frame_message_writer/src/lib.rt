@@ -1,4 +1,6 @@
 // Frames written from limit messages, queries and searches, kinds 07 to 09 and 0b.
+#![tactic(auto)]
+
 ghost use Rattle.std.specs.Prelude.{◌≡◌, ◌&&◌, [], ◌∷◌, ◌++◌, map, ◌≤◌, length, leb};
 ghost use Rattle.octets.specs.Octets.{big_endian, part, write};
 ghost use Rattle.rules.specs.Command.{is_code, is_count, is_few};

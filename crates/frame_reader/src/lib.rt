@@ -1,4 +1,6 @@
 // Frames read from lines of hexadecimal digits.
+#![tactic(auto)]
+
 ghost use Rattle.std.specs.Prelude.{◌≡◌, true, ◌++◌, ◌*◌, ◌≤◌, ◌<◌, length, drop};
 ghost use Rattle.frame.specs.Hex.{is_hex, all_hex, nibble, unhex};
 ghost use Rattle.frame.specs.Frame.{read_frame};
@@ -96,8 +98,7 @@ pub fn unpack(line: &[u8], buf: &mut [u8], values: &[u8]) -> usize
 
 // Writes the frame that a line is from byte 0 on and returns its length. Where the line is no frame, or the buffer has under 352 bytes, it returns 0 and
 // leaves the buffer as it was.
-#[unsafe(no_mangle)]
-pub extern "C" fn nomiluvar_read_frame(line: &[u8], frame: &mut [u8]) -> usize
+pub fn nomiluvar_read_frame(line: &[u8], frame: &mut [u8]) -> usize
     ensures { Filled (read_frame line.now (length frame.old)) frame.old frame.new result }
 {
     if frame.len() < 352 {

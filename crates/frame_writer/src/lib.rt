@@ -1,4 +1,6 @@
 // Frames written from commands.
+#![tactic(auto)]
+
 ghost use Rattle.std.specs.Prelude.{[], ◌∷◌, ◌≤◌, length};
 ghost use Rattle.rules.specs.Command as Rule;
 ghost use Rattle.frame.specs.Frame.{command_frame, write_frame};

@@ -1,0 +1,4 @@
+use Rattle.command.proofs.bank.Goals as goal
+
+pub returns : goal.returns
+returns c = rw c.code_at.ensures
