@@ -1,4 +1,6 @@
 // What is booked on one account: turnovers, each by its place, and the start value.
+#![tactic(auto)]
+
 ghost use Rattle.std.specs.Prelude.{◌≡◌, ◌+◌, ◌≤◌, ◌<◌, ◌^◌, pos, nat_abs, ◌+ℤ◌, ◌-ℤ◌, T};
 ghost use Rattle.amount.specs.Amount.{is_amount};
 ghost use Rattle.rules.specs.Account as Rule;

@@ -1,9 +1,11 @@
 // The five blocking letters: which of them a byte sets, and how a report shows one.
+#![tactic(auto)]
+
 ghost use Rattle.std.specs.Prelude.{◌≡◌};
 ghost use Rattle.rules.specs.Letters as Letters;
 ghost use Rattle.account_letters.specs.View.{to_letter};
 
-#[derive(Drop)]
+#[derive(Clone, Copy)]
 pub enum Letter {
     A,
     B,

@@ -1,4 +1,6 @@
 // The new day of one account: its limits by their morning methods, the day balance into the start value, the turnovers 0.
+#![tactic(auto)]
+
 ghost use Rattle.std.specs.Prelude.{◌≡◌, ◌*◌, ◌≤◌, ◌^◌, nat_abs, ◌+ℤ◌, T};
 ghost use Rattle.rules.specs.Account as Rule;
 ghost use Rattle.rules.specs.Day as Day;

@@ -1,4 +1,6 @@
 // The whole record, table and book, and what every call on it promises.
+#![tactic(auto)]
+
 ghost use Rattle.std.specs.Prelude.{◌≡◌};
 ghost use Rattle.rules.specs.Machine as Machine;
 ghost use Rattle.table.specs.Promise.{Unused};

@@ -1,4 +1,6 @@
 // Kind 0a on the table: the number of the first check that fails with the very same table, or 0 with every account's new day.
+#![tactic(auto)]
+
 ghost use Rattle.std.specs.Prelude.{map};
 ghost use Rattle.rules.specs.Command.{Opening};
 ghost use Rattle.rules.specs.Day.{new_day};

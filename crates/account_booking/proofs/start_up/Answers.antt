@@ -1,0 +1,15 @@
+use native.Mathlib.Omega.{arith}
+use lib.IntN.{pos}
+use Rattle.amount.proofs.Laws.{sum_fits}
+use Rattle.account.specs.View.{to_account}
+use Rattle.account.proofs.Laws.{plus_reads, count_size, start_size}
+use Rattle.account_booking.proofs.start_up.Goals as goal
+
+pub overflow_add-x : goal.overflow_add-x
+overflow_add-x c =
+    omega (arith, sum_fits, start_size c.args.x c.requires.0, count_size c.args.n (omega arith))
+
+pub returns : goal.returns
+unfolding to_account
+returns c =
+    rw (plus_reads c.args.x.start (pos c.args.n) (omega (arith, c.requires.0.start_small))) at c.with_start.ensures

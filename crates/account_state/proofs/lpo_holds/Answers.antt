@@ -1,0 +1,13 @@
+use Rattle.amount.proofs.Integer.{back}
+use Rattle.rules.specs.Payment.{lpo_allows}
+use Rattle.account.specs.View.{to_limit}
+use Rattle.account_state.proofs.lpo_holds.Goals as goal
+
+pub returns-in-Value : goal.returns-in-Value
+unfolding lpo_allows to_limit
+returns-in-Value c =
+    rw c.in-Value.is (rw (back c.in-Value.v c.in-Value.known_told-1-own.given.0.1) at c.lpo_allows.ensures)
+
+pub returns-in-Closed : goal.returns-in-Closed
+unfolding lpo_allows to_limit
+returns-in-Closed c = rw c.in-Closed.is
