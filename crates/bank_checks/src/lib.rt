@@ -1,4 +1,6 @@
 // The checks that a call on a bank's account begins with.
+#![tactic(auto)]
+
 ghost use Rattle.std.specs.Prelude.{◌≡◌};
 ghost use Rattle.rules.specs.Account.{is_bank};
 ghost use Rattle.rules.specs.Command.{is_code};

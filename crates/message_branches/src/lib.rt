@@ -1,4 +1,6 @@
 // The accounts of a table as a limit message looks at them, read once: the table is copied for each function that reads it.
+#![tactic(auto)]
+
 ghost use Rattle.table.specs.Promise.{Good};
 ghost use Rattle.message_branches.specs.Marks.{Marked, Targeted};
 
@@ -7,7 +9,7 @@ use table::{Table, place, slot};
 
 // By place in the table: whether the account is a branch of the sender's, and whether check 18 passes it; small enough to go by value from item to item. And
 // whether the sender is known, and a bank that has a branch.
-#[derive(Drop)]
+#[derive(Clone, Copy)]
 pub struct Branches {
     pub owned: [bool; 64],
     pub later: [bool; 64],
@@ -46,7 +48,7 @@ pub fn branches_of(t: Table, sender: u32, day: u32, second: u32) -> Branches
 }
 
 // Whether the sender is known, and a bank that has a branch; whether a code is known, its place as one of the array, and the account there.
-#[derive(Drop)]
+#[derive(Clone, Copy)]
 pub struct Target {
     pub known: bool,
     pub head: bool,

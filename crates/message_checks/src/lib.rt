@@ -1,4 +1,6 @@
 // The checks of kinds 07 and 08: of the header, and of the limits that the message names.
+#![tactic(auto)]
+
 ghost use Rattle.std.specs.Prelude.{◌≡◌, not, List, [], ◌∷◌, ℕ, ◌*◌, ◌≤◌, length};
 ghost use Rattle.rules.specs.Machine.{first_failure};
 ghost use Rattle.rules.specs.Message as Message;

@@ -1,4 +1,6 @@
 // What a query and a search have in common: what they answer, and their checks before 21.
+#![tactic(auto)]
+
 ghost use Rattle.std.specs.Prelude.{◌≡◌, not, [], ◌∷◌};
 ghost use Rattle.rules.specs.Machine.{first_failure};
 ghost use Rattle.rules.specs.Message as Message;
@@ -7,7 +9,7 @@ use message_fields::{is_current, is_message_id};
 use rules::first;
 
 // The answer, how many places of the book are used, and the length of the report that was written.
-#[derive(Drop)]
+#[derive(Clone, Copy)]
 pub struct Asked {
     pub answer: u64,
     pub used: usize,

@@ -1,4 +1,6 @@
 // The checks of the limits that a change or a deletion names.
+#![tactic(auto)]
+
 ghost use Rattle.std.specs.Prelude.{◌≡◌, List, map, ℕ, ◌≤◌, take};
 ghost use Rattle.rules.specs.Command as Command;
 ghost use Rattle.command.specs.View.{to_header};

@@ -1,5 +1,6 @@
-// The items of a change as a list of records, and their checks. A slice of structs has no automatic proof: the three functions over one are thin and
-// proved by hand, and what an item is tested for is in `test_item`.
+// The items of a change as a list of records, and their checks: what one item is tested for is in `test_item`.
+#![tactic(auto)]
+
 ghost use Rattle.std.specs.Prelude.{◌≡◌, map, ◌<◌, ◌≤◌, length, take};
 ghost use Rattle.command.specs.View.{items_from};
 ghost use Rattle.message_items.specs.Records.{record_of, record_at, tested, reviewed};
@@ -11,7 +12,7 @@ use slices::copy;
 use table::{place, slot};
 
 // Whether checks 18, 19, 20 and 6 pass.
-#[derive(Drop)]
+#[derive(Clone, Copy)]
 pub struct Flags {
     pub later: bool,
     pub typed: bool,
@@ -20,7 +21,7 @@ pub struct Flags {
 }
 
 // Account id, type, the place of the account among the codes looked at, and value.
-#[derive(Drop)]
+#[derive(Clone, Copy)]
 pub struct Item {
     pub account: [u8; 10],
     pub kind: u8,

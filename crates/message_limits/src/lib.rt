@@ -1,4 +1,6 @@
 // A limit of one account, set by an item of a change or deleted, and the message's moment put on the account.
+#![tactic(auto)]
+
 ghost use Rattle.std.specs.Prelude.{◌≡◌, List, ℕ};
 ghost use Rattle.rules.specs.Message as Message;
 ghost use Rattle.command.specs.View.{to_header};

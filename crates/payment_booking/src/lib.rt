@@ -1,4 +1,6 @@
 // What a payment books on one account: of a party's bank all of it, of the party itself its share.
+#![tactic(auto)]
+
 ghost use Rattle.std.specs.Prelude.{◌≡◌, ◌+◌, ◌<◌, ◌^◌, nat_abs, T};
 ghost use Rattle.amount.specs.Amount.{is_amount};
 ghost use Rattle.rules.specs.Account as Rule;

@@ -1,4 +1,6 @@
 // The checks of a payment in their order: those that look at no account, then those of the parties and their banks.
+#![tactic(auto)]
+
 ghost use Rattle.std.specs.Prelude.{◌≡◌, ◌≤◌, ◌<◌, ◌^◌};
 ghost use Rattle.rules.specs.Invariant.{Sized};
 ghost use Rattle.rules.specs.Machine.{first_failure};

@@ -11,7 +11,7 @@ use Rattle.rules.specs.Message.{decimal}
 use Rattle.frame.specs.Field.{size, row_size, width, plain_value, value_of, all_values}
 use Rattle.frame.specs.Frame.{K06, kind_byte, fields_of, is_frame, command_of, commands_of}
 use Rattle.octets.proofs.Places.{part_first}
-use Rattle.command.proofs.ByKind.{end, kind_length, kind-command}
+use Rattle.command.proofs.ByKind.{end, kind_length, kind_command}
 
 module _ (b : List ℕ) (h : is_frame b ≡ true) (kind : get_or b 0 0 ≡ 6) where
   pub payment_long : length b ≡ 22
@@ -20,4 +20,4 @@ module _ (b : List ℕ) (h : is_frame b ≡ true) (kind : get_or b 0 0 ≡ 6) wh
 
   pub payment_held : commands_of b ≡ Payment (get_or b 1 0) (decimal 0 (part 2 6 b)) (decimal 0 (part 8 6 b)) (signed (number (part 14 8 b))) ∷ []
   unfolding kind_byte fields_of command_of all_values value_of plain_value width size
-  payment_held = rw (part_first 1 1 b (omega (arith, payment_long))) at (kind-command K06 b h kind)
+  payment_held = rw (part_first 1 1 b (omega (arith, payment_long))) at (kind_command K06 b h kind)

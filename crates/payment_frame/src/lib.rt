@@ -1,4 +1,6 @@
 // A payment's frame, taken apart without the arrays that other kinds need.
+#![tactic(auto)]
+
 ghost use Rattle.std.specs.Prelude.{◌≡◌, true, [], ◌∷◌, get_or};
 ghost use Rattle.rules.specs.Command as Rule;
 ghost use Rattle.frame.specs.Frame.{is_frame, commands_of};

@@ -1,4 +1,6 @@
 // Whether the letters of two parties and of their banks allow a payment.
+#![tactic(auto)]
+
 ghost use Rattle.std.specs.Prelude.{◌≡◌};
 ghost use Rattle.rules.specs.Letters as Letters;
 ghost use Rattle.account.specs.View.{to_account};

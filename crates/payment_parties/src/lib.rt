@@ -1,4 +1,6 @@
 // Where the parties of a payment stand in the table, and their banks.
+#![tactic(auto)]
+
 ghost use Rattle.std.specs.Prelude.{◌≡◌, cond, ◌≤◌, length, take};
 ghost use Rattle.rules.specs.Payment as Payment;
 ghost use Rattle.account.specs.View.{to_account};
@@ -10,7 +12,7 @@ use account::{Account, Owner};
 use table::{place, slot};
 
 // A payment: 0 credit or 1 debit, the codes of both, the amount.
-#[derive(Drop)]
+#[derive(Clone, Copy)]
 pub struct Transfer {
     pub way: u8,
     pub sender: u32,
@@ -19,7 +21,7 @@ pub struct Transfer {
 }
 
 // Whether both parties are in the table, and their places in the array: any where one is not.
-#[derive(Drop)]
+#[derive(Clone, Copy)]
 pub struct Found {
     pub known: bool,
     pub payer: usize,

@@ -1,4 +1,6 @@
 // What the report of a query says of one account.
+#![tactic(auto)]
+
 ghost use Rattle.std.specs.Prelude.{◌≡◌, [], ◌∷◌, ◌++◌, ◌+◌, ◌≤◌, length, T};
 ghost use Rattle.octets.specs.Octets.{write};
 ghost use Rattle.rules.specs.Report as Report;

@@ -1,4 +1,6 @@
 // The report of a query: a count, and a block for each account id.
+#![tactic(auto)]
+
 ghost use Rattle.std.specs.Prelude.{◌≡◌, true, cond, [], ◌∷◌, ◌++◌, ◌+◌, ◌*◌, ◌≤◌, length};
 ghost use Rattle.rules.specs.Report as Report;
 ghost use Rattle.account.specs.View.{to_account};

@@ -1,4 +1,6 @@
 // The letters of an account in the report of a search: how many are set, and which, in the order ABNSR.
+#![tactic(auto)]
+
 ghost use Rattle.std.specs.Prelude.{◌+◌, ◌≤◌, ◌<◌, length};
 ghost use Rattle.rules.specs.Letters as Letters;
 ghost use Rattle.account_letters.specs.View.{to_letter};

@@ -1,4 +1,6 @@
 // What the report of a query says of one limit.
+#![tactic(auto)]
+
 ghost use Rattle.std.specs.Prelude.{◌≡◌, true, ◌+◌, ◌≤◌, ◌<◌, ◌^◌, pos, nat_abs, length, T};
 ghost use Rattle.std.specs.Int.Signed.{lt_z};
 ghost use Rattle.octets.specs.Octets.{write};
@@ -13,7 +15,7 @@ use amount::{percent, size};
 use octet_writer::{put_byte, put_i64, put_u16};
 
 // What is said of one limit.
-#[derive(Drop)]
+#[derive(Clone, Copy)]
 pub struct Status {
     closed: u8,
     value: i64,

@@ -1,4 +1,6 @@
 // Which accounts a search selects.
+#![tactic(auto)]
+
 ghost use Rattle.std.specs.Prelude.{◌≡◌, map, length};
 ghost use Rattle.rules.specs.Command.{some?};
 ghost use Rattle.rules.specs.Message.{account_id};
