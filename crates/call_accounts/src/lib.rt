@@ -1,4 +1,6 @@
 // Kinds 01 and 02 as whole calls: the number of the first check that fails with the very same table, or 0 with an account more.
+#![tactic(auto)]
+
 ghost use Rattle.std.specs.Prelude.{[], ◌∷◌, ◌++◌, ◌<◌};
 ghost use Rattle.rules.specs.Command.{Bank, Branch};
 ghost use Rattle.account.specs.View.{to_account};

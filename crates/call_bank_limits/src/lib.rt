@@ -1,5 +1,7 @@
 // Kind 05: the number of the first check that fails with the very same table, or 0 with a bank's limits changed. As a whole call, and as the account that is
 // to be stored, for who owns the table.
+#![tactic(auto)]
+
 ghost use Rattle.rules.specs.Command.{BankLimits};
 ghost use Rattle.table.specs.Promise.{Good, Called, CalledAt};
 

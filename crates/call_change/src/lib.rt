@@ -1,5 +1,7 @@
 // Kind 07 as a whole call: the number of the first check that fails with the very same table and book, or 0 with the limits set and the message's id in the
 // book. It has two parts: the checks, which take the table and do not give it back, and the items set one by one, which whoever owns a table may do itself.
+#![tactic(auto)]
+
 ghost use Rattle.std.specs.Prelude.{◌≡◌, ◌≤◌};
 ghost use Rattle.rules.specs.Command.{Change};
 ghost use Rattle.command.specs.View.{to_header, items_from};
@@ -19,7 +21,7 @@ use rules::is_count;
 use table::{Table, slot};
 
 // What a change answers, how many places of the book are used, and the items that are to be set, with the message's moment: none where it is refused.
-#[derive(Drop)]
+#[derive(Clone, Copy)]
 pub struct Plan {
     pub answer: u64,
     pub used: usize,

@@ -1,4 +1,6 @@
 // Day opening (0a) as a whole call: the accounts' new day, and the ids that leave the book.
+#![tactic(auto)]
+
 ghost use Rattle.rules.specs.Command.{Opening};
 ghost use Rattle.ledger.specs.Promise.{Sound, Settled};
 

@@ -1,5 +1,7 @@
 // Kind 08: the number of the first check that fails with the very same table and book, or 0 with the limit deleted and the message's id in the book. As a whole
 // call, and as the account that is to be stored, for who owns the table.
+#![tactic(auto)]
+
 ghost use Rattle.octets.specs.Octets.{part};
 ghost use Rattle.rules.specs.Command.{Deletion};
 ghost use Rattle.command.specs.View.{to_header};

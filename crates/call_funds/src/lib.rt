@@ -1,5 +1,7 @@
 // Kinds 03 and 04: the number of the first check that fails with the very same table, or 0 with a bank's start value changed. As whole calls, and as the
 // account that is to be stored, for who owns the table.
+#![tactic(auto)]
+
 ghost use Rattle.rules.specs.Command.{Funding, Withdrawal};
 ghost use Rattle.table.specs.Promise.{Good, Called, CalledAt};
 

@@ -1,5 +1,7 @@
 // Kinds 0c and 13: the number of the first check that fails with the very same table, or 0 with an account's letters set anew, or a bank marked. As whole
 // calls, and as the account that is to be stored, for who owns the table.
+#![tactic(auto)]
+
 ghost use Rattle.std.specs.Prelude.{◌≡◌};
 ghost use Rattle.rules.specs.Command.{Letters, Mark, some?};
 ghost use Rattle.table.specs.View.{accounts_of};

@@ -1,4 +1,6 @@
 // A payment as a whole call: all its checks in order, and what is booked at both sides.
+#![tactic(auto)]
+
 ghost use Rattle.std.specs.Prelude.{◌≡◌, true, ◌++◌, nat_abs};
 ghost use Rattle.rules.specs.Command as Command;
 ghost use Rattle.rules.specs.Invariant.{Sized};

@@ -1,4 +1,6 @@
 // The query of limits, kind 09: its checks, its report, and its id in the book. The table stays as it is.
+#![tactic(auto)]
+
 ghost use Rattle.std.specs.Prelude.{◌≡◌, [], ◌∷◌, ◌*◌, ◌≤◌, length, take};
 ghost use Rattle.rules.specs.Account.{among};
 ghost use Rattle.rules.specs.Command.{Query, some?};

@@ -1,4 +1,6 @@
 // The search for accounts by text, kind 0b: its checks, its report, and its id in the book. The table stays as it is.
+#![tactic(auto)]
+
 ghost use Rattle.std.specs.Prelude.{◌≡◌, ◌&&◌, [], ◌∷◌};
 ghost use Rattle.rules.specs.Command.{Search, is_few};
 ghost use Rattle.frame_fields.specs.Conditions.{conditions_in, are_conditions};
