@@ -1,4 +1,6 @@
 // Lines of a text, and the writing of an answer line.
+#![tactic(auto)]
+
 ghost use Rattle.std.specs.Prelude.{◌≡◌, ◌+◌, ◌*◌, ◌<◌, ◌≤◌, length, drop, take, eqb};
 ghost use Rattle.rules.specs.Command.{some?};
 ghost use Rattle.octets.specs.Octets.{write};

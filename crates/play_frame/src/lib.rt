@@ -1,4 +1,6 @@
 // One frame, played on table, book and report buffer.
+#![tactic(auto)]
+
 ghost use Rattle.std.specs.Prelude.{◌≡◌};
 ghost use Rattle.frame.specs.Frame.{commands_of};
 ghost use Rattle.ledger.specs.Promise.{Sound, Played};

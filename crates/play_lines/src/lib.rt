@@ -1,5 +1,7 @@
 // A chunk of lines, played: the book is lent, payments are booked, limits changed and single accounts stored in place, so that the table comes back from other
 // calls alone.
+#![tactic(auto)]
+
 ghost use Rattle.ledger.specs.Promise.{Sound};
 ghost use Rattle.play_lines.specs.Run.{RanIs};
 

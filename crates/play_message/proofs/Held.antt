@@ -21,7 +21,7 @@ use Rattle.command.specs.declared.Command.TheVariants.{Nothing, Bank, Branch, Fu
 use Rattle.command.specs.declared.Order.{Order}
 use Rattle.command.specs.View.{to_commands, ordered}
 use Rattle.command.specs.contracts.Command.{the_type}
-use Rattle.command.proofs.ByKind.{kind-command}
+use Rattle.command.proofs.ByKind.{kind_command}
 
 -- the kind of the first command, 0 where there is none
 unfoldable first_kind : List Rule.Command → ℕ
@@ -66,7 +66,7 @@ module _ (b : List ℕ) (o : Order) (h : is_frame b ≡ true) (p : ordered o ≡
   held =
       let r = kind_of_byte (get_or b 0 0) b 1 h in
       numbered o.command o.id o.accounts o.types o.values
-      ∙ ap first_kind (p ∙ kind-command r.0 b h r.1)
+      ∙ ap first_kind (p ∙ kind_command r.0 b h r.1)
       ∙ ap (λ (f : Filled). kind_byte f.0) (values_back r.0 (all_values (fields_of r.0) b 1))
       ∙ sym r.1
 

@@ -1,5 +1,7 @@
 // Frames played past `step`, so that the table does not come back: a query and a search leave it as it is, of a change the items come back, and of a command
 // that changes one account that account.
+#![tactic(auto)]
+
 ghost use Rattle.std.specs.Prelude.{◌≡◌, true, get_or};
 ghost use Rattle.frame.specs.Frame.{is_frame, commands_of};
 ghost use Rattle.ledger.specs.Promise.{Sound, Played, PlayedAt};
