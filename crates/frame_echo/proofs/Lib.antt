@@ -1,3 +1,4 @@
 pub mod Laws
 pub mod Begun
 pub mod LinesProof
+pub mod Whole

@@ -1,5 +1,6 @@
 -- What `frame_echo` prints of an input, cut into whatever reads: the echo of each line, in order. Assumes nothing.
-use Rattle.std.specs.Prelude.{◌≡◌, List, [], ◌∷◌, ◌++◌, ℕ}
+use Rattle.std.specs.Prelude.{◌≡◌, Option, List, [], ◌∷◌, ◌++◌, ℕ}
+use Rattle.std.specs.Io.KnownBytes.{Consumes, Appends, IsAtEnd}
 use Rattle.lines.specs.Text.{whole_lines}
 use Rattle.frame_echo.specs.Printed.{echoed, begun, printed, last}
 
@@ -14,3 +15,10 @@ pub record LinesEchoed : Type 0 where
   -- an input whose last line has its end, and one whose last line lacks it
   pub ended : (input : List ℕ) → begun [] input ≡ [] → printed [] input ++ last (begun [] input) ≡ echoes (whole_lines input)
   pub unended : (input : List ℕ) → ¬ (begun [] input ≡ []) → printed [] input ++ last (begun [] input) ≡ echoes (whole_lines (input ++ (10 ∷ [])))
+
+-- An input is read to its end, and what is printed of it is written: of what the reader had left and the writer held before and after, where that is known
+pub record InputEchoed (left left' held held' : Option (List ℕ)) : Type 0 where
+  pub input : List ℕ
+  pub read : Consumes left left' input
+  pub ended : IsAtEnd left'
+  pub written : Appends held held' (printed [] input ++ last (begun [] input))

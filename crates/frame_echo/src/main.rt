@@ -1,16 +1,20 @@
 // Reads each line of standard input as a frame, parses it, writes the command again and prints that frame, a line each. A line that is no frame gives an
 // empty line, which no frame is: so each line of the input has its own in the output, and every frame comes out as it went in.
-ghost use Rattle.std.specs.Prelude.{◌≡◌, [], ◌∷◌, ◌+◌, ◌≤◌, length, take};
+#![tactic(auto)]
+
+ghost use Rattle.std.specs.Prelude.{◌≡◌, [], ◌∷◌, ◌+◌, ◌≤◌, length, take, OnOk};
 ghost use Rattle.octets.specs.Octets.{write};
 ghost use Rattle.frame.specs.Frame.{read_frame};
 ghost use Rattle.frame.specs.Filled.{Filled};
 ghost use Rattle.frame_echo.specs.Printed.{echoed, last, EchoIs};
+ghost use Rattle.frame_echo.specs.Lines.{InputEchoed};
 
 use command::parse;
 use frame_reader::nomiluvar_read_frame;
 use frame_writer::write_frame;
 use hex_writer::put_hex;
-use libc::{STDERR_FILENO, STDIN_FILENO, STDOUT_FILENO};
+use std::io::{Read, Write};
+use std::process::ExitCode;
 
 // The command of a line's frame, written again: by the round trip this is what the reader itself gives.
 fn rewrite(line: &[u8], frame: &mut [u8]) -> usize
@@ -89,49 +93,69 @@ fn finish(line: &[u8], out: &mut [u8]) -> usize
     echo(line, out, 0)
 }
 
-// Says on standard error that the program ends before its input does.
-fn tell_unread() {
-    io::write_all(
-        STDERR_FILENO,
-        b"frame_echo: standard input cannot be read\n",
-    );
+// Why not all of an input was echoed: it could not be read, or the output could not be written.
+#[derive(Clone, Copy)]
+enum Failure {
+    Unread,
+    Unwritten,
 }
 
-// The same of standard output, where not all was written.
-fn tell_unwritten() {
-    io::write_all(
-        STDERR_FILENO,
-        b"frame_echo: standard output cannot be written\n",
-    );
-}
-
-fn main() {
-    let mut text = io::buffer();
+// Echoes the lines of an input, read by read: what came of a read is written before the next.
+fn echo_all<R: Read, W: Write>(input: &mut R, output: &mut W) -> Result<(), Failure>
+    ensures { OnOk result (InputEchoed (R.remaining input.old) (R.remaining input.new) (W.contents output.old) (W.contents output.new)) }
+{
+    let mut text = [0u8; 4096];
     let mut line = [0u8; 705];
-    let mut out = io::large_buffer();
+    let mut out = [0u8; 65536];
     let mut kept: usize = 0;
     let mut turns = u64::MAX;
     while turns > 0 {
-        let got = libc::read(STDIN_FILENO, &mut text);
-        let n = io::count(got, &text);
+        let n = match input.read(&mut text) {
+            Ok(n) => n,
+            Err(_) => return Err(Failure::Unread),
+        };
         if n == 0 {
-            if got < 0 {
-                tell_unread();
-                return;
-            }
             let end = finish(&line[..kept], &mut out);
-            if !io::write_all(STDOUT_FILENO, &out[..end]) {
-                tell_unwritten();
+            if output.write_all(&out[..end]).is_err() {
+                return Err(Failure::Unwritten);
             }
-            return;
+            return Ok(());
         }
         let e = steps(&text[..n], &mut line, kept, &mut out);
         kept = e.kept;
         let end = e.end;
-        if !io::write_all(STDOUT_FILENO, &out[..end]) {
-            tell_unwritten();
-            return;
+        if output.write_all(&out[..end]).is_err() {
+            return Err(Failure::Unwritten);
         }
         turns -= 1;
+    }
+    Err(Failure::Unread)
+}
+
+// Says on standard error that the program ends before its input does.
+fn tell_unread(rt: &HostRuntime) {
+    let _ = rt
+        .stderr()
+        .write_all(b"frame_echo: standard input cannot be read\n");
+}
+
+// The same of standard output, where not all was written.
+fn tell_unwritten(rt: &HostRuntime) {
+    let _ = rt
+        .stderr()
+        .write_all(b"frame_echo: standard output cannot be written\n");
+}
+
+fn main(rt: HostRuntime) -> ExitCode {
+    match echo_all(&mut rt.stdin(), &mut rt.stdout()) {
+        Ok(()) => ExitCode::SUCCESS,
+        Err(Failure::Unread) => {
+            tell_unread(&rt);
+            ExitCode::FAILURE
+        }
+        Err(Failure::Unwritten) => {
+            tell_unwritten(&rt);
+            ExitCode::FAILURE
+        }
     }
 }

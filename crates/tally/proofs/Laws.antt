@@ -1,16 +1,20 @@
 -- Laws of the buffer that is read into, and of a turn of the program. Assumes nothing.
-use mathlib.Core.Path.{◌≡◌, refl, sym, ap, subst, ◌∙◌}
-use mathlib.Core.Bool.{Bool, true, false, not, cond, false≢true}
+use mathlib.Core.Path.{◌≡◌, refl, sym, ap, ap₂, subst, ◌∙◌}
+use mathlib.Core.Bool.{Bool, true, false, cond, false≢true}
 use mathlib.Core.Logic.{◌⊎◌, inl, inr}
-use mathlib.Core.List.{List, [], ◌∷◌, ◌++◌, append-nil}
+use mathlib.Core.List.{List, [], ◌∷◌, ◌++◌, append_assoc, append-nil}
 use Prim.Native.Nat.{ℕ, zero, suc, ◌+◌, ◌*◌, ◌≤◌, ◌<◌}
 use native.Mathlib.Omega.{arith}
 use lib.Dec.{eqb}
 use lib.ListN.{length, take, drop, length-take, length-drop}
 use lib.Seq.{take-add, take_at, drop_at, length-take-le}
 use borrow.Author.Tests.{eq-eqb, eqb-true}
+use Rattle.std.specs.Prelude.{Option, Some, None, Result, Ok, Err, OnOk, is_ok, is_err}
+use Rattle.std.specs.Io.KnownBytes.{Consumes, Appends, IsAtEnd, ReadConsumes}
+use Rattle.std.specs.Result.{result_unwrap_or}
+use Rattle.std.specs.declared.io.Error.{Error}
 use Rattle.octets.specs.Octets.{write}
-use Rattle.octets.proofs.Places.{write_is, write_length}
+use Rattle.octets.proofs.Places.{take_none, write_is, write_length}
 use Rattle.rules.specs.Machine.{empty}
 use Rattle.ledger.specs.declared.Ledger.{Ledger}
 use Rattle.ledger.specs.Promise.{SoundLedger}
@@ -23,8 +27,8 @@ use Rattle.tally_feed.specs.Reads as Fed
 use Rattle.tally_feed.specs.Reads.{begun, Reads, start, next}
 use Rattle.tally_feed.proofs.Theorem.{input_answered, same_end, none_left}
 use Rattle.tally.specs.declared.progress.Progress.{Progress}
-use Rattle.tally.specs.Progress.{started, written, broken, Ready, PlayedIs, Over}
-use Rattle.tally.specs.ReadOn.{Rests, ReadOnIs, stays, ends, reads, fails, none}
+use Rattle.tally.specs.Progress.{started, written, broken, Ready, PlayedIs, PutIs, wrote, unwritten, AllAnswered, Over, WholeAnswered}
+use Rattle.tally.specs.ReadOn.{ReadIs, Rests, ReadOnIs, stays, ends, reads, fails, none}
 
 -- ---- the buffer
 
@@ -52,8 +56,63 @@ unfolding last_end
 last_within zero n h = omega arith
 last_within (suc k) n h = omega arith
 
-pub failed : {p r : Progress} {buf buf' : List ℕ} → r ≡ broken p → ReadOnIs p buf (broken p) buf' → ReadOnIs p buf r buf'
-failed {p} {r} {buf} {buf'} e h = subst (λ (x : Progress). ReadOnIs p buf x buf') (sym e) h
+-- a read that did not fail and gave no byte
+pub none_read : {E : Type 0} (r : Result ℕ E) {n : ℕ} → false ≡ is_err r → n ≡ result_unwrap_or r 0 → n ≡ 0 → r ≡ Ok 0
+none_read (Ok k) f e z = ap Ok (sym e ∙ z)
+none_read (Err x) f e z = absurd (false≢true f)
+
+pub none_given : {E : Type 0} {r : Result ℕ E} (known known' : Option (List ℕ)) (part : List ℕ) → ReadConsumes known known' r part → r ≡ Ok 0 → 0 < length part
+    → Consumes known known' [] × IsAtEnd known'
+none_given {E} {r} known known' part h e s =
+    let k : Consumes known known' (take 0 part) × (0 ≡ 0 → 0 < length part → IsAtEnd known') = subst (λ (q : Result ℕ E). ReadConsumes known known' q part) e h in
+    (subst (Consumes known known') (take_none part) k.0, k.1 refl s)
+
+-- the input has ended: mid is the buffer after the read, which the last line's end is written to
+pub read_last : {known known' : Option (List ℕ)} {buf buf' : List ℕ} {left n : ℕ} {said : Result ℕ Error} (mid : List ℕ) → left < length buf → length mid ≡ length buf → take left mid ≡ take left buf
+    → buf' ≡ write mid left (last_end left) → n ≡ length (last_end left) → said ≡ Ok 0 → Consumes known known' [] × IsAtEnd known' → ReadIs known known' buf left (record { said = said; n = n; ended = true; failed = false }) buf'
+read_last {buf = buf} {buf' = buf'} {left = left} {n = n} mid h l t e k z c =
+    let room : left + length (last_end left) ≤ length buf = last_within left (length buf) h in
+    let fits : left + length (last_end left) ≤ length mid = omega (arith, room, l) in
+    record {
+      long = ap length e ∙ write_length mid left (last_end left) ∙ l;
+      stays = ap (take left) e ∙ written_before mid (last_end left) left fits ∙ t;
+      within = omega (arith, k, room);
+      failed_is = sym (ap is_err z);
+      last = λ _. (z, ap₂ (λ (i : ℕ) (b : List ℕ). take i (drop left b)) k e ∙ written_there mid (last_end left) left fits);
+      more = λ _ g. absurd (false≢true (sym g));
+      taken = λ _ g. absurd (false≢true (sym g));
+      none_left = λ _. c;
+    }
+
+pub failed : {p r : Progress} {buf buf' : List ℕ} {known known' : Option (List ℕ)} → r ≡ broken p → ReadOnIs p buf known (broken p) buf' known' → ReadOnIs p buf known r buf' known'
+failed {p} {r} {buf} {buf'} {known} {known'} e h = subst (λ (x : Progress). ReadOnIs p buf known x buf' known') (sym e) h
+
+-- ---- known bytes
+
+pub consumes_then : (a b c : Option (List ℕ)) (xs ys : List ℕ) → Consumes a b xs → Consumes b c ys → Consumes a c (xs ++ ys)
+consumes_then None b c xs ys e f = tt
+consumes_then (Some a) None c xs ys e f = absurd e
+consumes_then (Some a) (Some b) None xs ys e f = absurd f
+consumes_then (Some a) (Some b) (Some c) xs ys e f = e ∙ ap (λ (l : List ℕ). xs ++ l) f ∙ sym (append_assoc xs ys c)
+
+pub appends_then : (a b c : Option (List ℕ)) (xs ys : List ℕ) → Appends a b xs → Appends b c ys → Appends a c (xs ++ ys)
+appends_then None b c xs ys e f = tt
+appends_then (Some a) None c xs ys e f = absurd e
+appends_then (Some a) (Some b) None xs ys e f = absurd f
+appends_then (Some a) (Some b) (Some c) xs ys e f = f ∙ ap (λ (l : List ℕ). l ++ ys) e ∙ append_assoc a xs ys
+
+consumes_none : (a : Option (List ℕ)) → Consumes a a []
+consumes_none None = tt
+consumes_none (Some a) = refl
+
+appends_none : (a : Option (List ℕ)) → Appends a a []
+appends_none None = tt
+appends_none (Some a) = sym (append-nil a)
+
+-- a write that did not fail
+pub at_ok : {T E : Type 0} {P : Type 0} (r : Result T E) → OnOk r P → is_ok r ≡ true → P
+at_ok (Ok x) p e = p
+at_ok (Err x) p e = absurd (false≢true e)
 
 -- ---- a call of `feed`
 
@@ -101,10 +160,29 @@ module _ {s : Fed} {ids days buf : List ℕ} {n : ℕ} {out : List ℕ} {f : Fed
 
 -- ---- a turn
 
--- it goes on from what reads left, or it is over
-pub record Standing (p : Progress) (ids days buf : List ℕ) : Type 0 where
-  pub going : p.over ≡ false → Ready p ids days buf
-  pub stopped : p.over ≡ true → Over p
+-- It goes on from what reads left; they are all that was taken of the input, and their answers are all that was written. Said of what the input had left and the
+-- output held at the beginning and now, where that is known
+pub record Going (left₀ left held₀ held : Option (List ℕ)) (p : Progress) (ids days buf : List ℕ) : Type 0 where
+  pub ready : Ready p ids days buf
+  pub taken : p.ended ≡ false → Consumes left₀ left (ready.fed.input ++ take p.n (drop p.fed.left buf))
+  pub all_taken : (e : p.ended ≡ true) → Consumes left₀ left (ready.closed e).input × IsAtEnd left
+  pub given : Appends held₀ held ready.fed.answers
+
+-- it is over
+pub record Stopped (left₀ left held₀ held : Option (List ℕ)) (p : Progress) : Type 0 where
+  pub over : p.over ≡ true
+  pub whole : (p.failed ≡ true) ⊎ WholeAnswered left₀ left held₀ held p.fed.table p.fed.used
+
+pub is_over : {left₀ left held₀ held : Option (List ℕ)} {p : Progress} → Stopped left₀ left held₀ held p → Over p
+is_over {left₀} {left} {held₀} {held} {p} s = record { over = s.over; why = go s.whole }
+  where
+    go : (p.failed ≡ true) ⊎ WholeAnswered left₀ left held₀ held p.fed.table p.fed.used → (p.failed ≡ true) ⊎ AllAnswered p.fed.table p.fed.used
+    go (inl e) = inl e
+    go (inr w) = inr (w.ids, w.days, w.input, w.answers, w.answered)
+
+pub record Standing (left₀ left held₀ held : Option (List ℕ)) (p : Progress) (ids days buf : List ℕ) : Type 0 where
+  pub going : p.over ≡ false → Going left₀ left held₀ held p ids days buf
+  pub stopped : p.over ≡ true → Stopped left₀ left held₀ held p
 
 -- each turn makes it less: a read is made, or less is left, or it is over
 abbrev undone : Bool → ℕ
@@ -114,15 +192,25 @@ undone false = 1
 abbrev pub weight : Progress → ℕ
 weight p = p.reads * 65538 + (p.fed.left + p.n) + undone p.over
 
-pub from_fresh : (l : Ledger) (buf : List ℕ) → SoundLedger l → ledger_view l ≡ empty → Standing (started l.table l.book.used) l.book.ids l.book.days buf
-from_fresh l buf g e = record {
-  going = λ _. record {
-    fed = record { input = []; answers = []; reads = none buf; none_waits = refl };
-    within = omega arith;
-    closed = λ h. absurd (false≢true h);
-  };
-  stopped = λ h. absurd (false≢true h);
-}
+pub from_fresh : (l : Ledger) {p : Progress} {buf : List ℕ} (left held : Option (List ℕ)) → SoundLedger l → ledger_view l ≡ empty → p ≡ started l.table l.book.used
+    → Standing left left held held p l.book.ids l.book.days buf
+from_fresh l {p} {buf} left held g e s =
+    subst (λ (q : Progress). Standing left left held held q l.book.ids l.book.days buf) (sym s)
+    (
+    record {
+      going = λ _. record {
+        ready = record {
+          fed = record { input = []; answers = []; reads = none buf; none_waits = refl };
+          within = omega arith;
+          closed = λ h. absurd (false≢true h);
+        };
+        taken = λ _. subst (Consumes left left) (sym (take_none (drop 0 buf))) (consumes_none left);
+        all_taken = λ h. absurd (false≢true h);
+        given = appends_none held;
+      };
+      stopped = λ h. absurd (false≢true h);
+    }
+    )
   where
     none : (b : List ℕ) → Reads empty l.table l.book.ids l.book.days l.book.used (take 0 b) [] []
     none [] = start g e
@@ -132,12 +220,16 @@ from_fresh l buf g e = record {
 abbrev pub after : Progress → Fed → Progress
 after q f = record { fed = f; n = 0; ended = q.ended; over = q.over; failed = q.failed; reads = q.reads }
 
-module _ {q : Progress} {ids days buf out : List ℕ} {f : Fed} {ids' days' buf' out' : List ℕ} (on : q.over ≡ false) (g : Ready q ids days buf) (long : length buf ≡ 65536)
-    (room : answer_room ≤ length out) (p : FedIs q.fed ids days buf q.n out f ids' days' buf' out') where
-  pub record Turned (s : Progress) (b : List ℕ) : Type 0 where
-    pub stands : Standing s ids' days' b
+module _ {left₀ left held₀ held : Option (List ℕ)} {q : Progress} {ids days buf out : List ℕ} {f : Fed} {ids' days' buf' out' : List ℕ} (on : q.over ≡ false)
+    (going : Going left₀ left held₀ held q ids days buf) (long : length buf ≡ 65536) (room : answer_room ≤ length out)
+    (p : FedIs q.fed ids days buf q.n out f ids' days' buf' out') where
+  pub record Turned (s : Progress) (b : List ℕ) (left' held' : Option (List ℕ)) : Type 0 where
+    pub stands : Standing left₀ left' held₀ held' s ids' days' b
     pub less : weight s < weight q
     pub same : length b ≡ 65536
+
+  abbrev g : Ready q ids days buf
+  g = going.ready
 
   abbrev input : List ℕ
   input = g.fed.input ++ take q.n (drop q.fed.left buf)
@@ -160,25 +252,31 @@ module _ {q : Progress} {ids days buf out : List ℕ} {f : Fed} {ids' days' buf'
   buf_long : length buf' ≡ 65536
   buf_long = same_buf p ∙ long
 
-  broken_stands : {s : Progress} → s.over ≡ true → s.failed ≡ true → (b : List ℕ) → Standing s ids' days' b
-  broken_stands o h b = record { going = λ e. absurd (false≢true (sym e ∙ o)); stopped = λ e. record { over = o; why = inl h } }
+  broken_stands : {s : Progress} {left' held' : Option (List ℕ)} → s.over ≡ true → s.failed ≡ true → (b : List ℕ) → Standing left₀ left' held₀ held' s ids' days' b
+  broken_stands o h b = record { going = λ e. absurd (false≢true (sym e ∙ o)); stopped = λ e. record { over = o; whole = inl h } }
 
-  turn_on : {s : Progress} {b : List ℕ} → ReadOnIs (written (after q f)) buf' s b → Turned s b
+  turn_on : {s : Progress} {b : List ℕ} {left' held' : Option (List ℕ)} → Appends held held' (take f.waiting out') → ReadOnIs (written (after q f)) buf' left s b left'
+      → Turned s b left' held'
   unfolding fed_again
-  turn_on (stays (inl e)) = absurd (false≢true (sym on ∙ e))
-  turn_on (stays (inr h)) = record {
+  turn_on a (stays (inl e)) = absurd (false≢true (sym on ∙ e))
+  turn_on {held' = held'} a (stays (inr h)) = record {
     stands = record {
       going = λ _. record {
-        fed = fed_again refl;
-        within = omega (arith, (left_most p).1, same_buf p);
-        closed = λ e. let c = g.closed e in record { input = c.input; is = append-nil input ∙ c.is };
+        ready = record {
+          fed = fed_again refl;
+          within = omega (arith, (left_most p).1, same_buf p);
+          closed = λ e. let c = g.closed e in record { input = c.input; is = append-nil input ∙ c.is };
+        };
+        taken = λ e. subst (Consumes left₀ left) (sym (append-nil input)) (going.taken e);
+        all_taken = going.all_taken;
+        given = appends_then held₀ held held' g.fed.answers (take f.waiting out') going.given a;
       };
       stopped = λ e. absurd (false≢true (sym on ∙ e));
     };
     less = omega (arith, left_less p h, ap undone on);
     same = buf_long;
   }
-  turn_on (ends e z h) =
+  turn_on {held' = held'} a (ends e z h) =
       let c = g.closed h in
       let none = none_left q.fed ids days buf q.n out f ids' days' buf' out' p room z in
       record {
@@ -186,20 +284,25 @@ module _ {q : Progress} {ids days buf out : List ℕ} {f : Fed} {ids' days' buf'
           going = λ w. absurd (false≢true (sym w));
           stopped = λ _. record {
             over = refl;
-            why = inr (
-              ids',
-              days',
-              c.input,
-              answers,
-              input_answered empty f.table ids' days' f.used (take f.left buf') c.input answers
-                  (subst (λ (i : List ℕ). Reads empty f.table ids' days' f.used (take f.left buf') i answers) c.is read_so_far) none,
-            );
+            whole = inr (
+                record {
+                  ids = ids';
+                  days = days';
+                  input = c.input;
+                  answers = answers;
+                  answered = input_answered empty f.table ids' days' f.used (take f.left buf') c.input answers
+                      (subst (λ (i : List ℕ). Reads empty f.table ids' days' f.used (take f.left buf') i answers) c.is read_so_far) none;
+                  read = (going.all_taken h).0;
+                  at_end = (going.all_taken h).1;
+                  written = appends_then held₀ held held' g.fed.answers (take f.waiting out') going.given a;
+                }
+                );
           };
         };
         less = omega (arith, (left_most p).0, ap undone on);
         same = buf_long;
       }
-  turn_on (reads e z h r k) =
+  turn_on {left' = left'} {held' = held'} a (reads {r = r} {buf' = b} e z n h i k) =
       let none = none_left q.fed ids days buf q.n out f ids' days' buf' out' p room z in
       let end : last_end f.left ≡ last_end (length (begun input)) =
       ap last_end (sym (length-take-le f.left buf' (omega (arith, (left_most p).1, same_buf p))))
@@ -207,22 +310,30 @@ module _ {q : Progress} {ids days buf out : List ℕ} {f : Fed} {ids' days' buf'
       record {
         stands = record {
           going = λ _. record {
-            fed = fed_again r.stays;
-            within = omega (arith, r.within, r.long);
-            closed = λ w. record { input = input; is = ap (λ (l : List ℕ). input ++ l) ((r.last w).1 ∙ end) };
+            ready = record {
+              fed = fed_again i.stays;
+              within = omega (arith, i.within, i.long);
+              closed = λ w. record { input = input; is = ap (λ (l : List ℕ). input ++ l) ((i.last w).1 ∙ end) };
+            };
+            taken = λ w. consumes_then left₀ left left' input (take r.n (drop f.left b)) (going.taken n) (i.taken k w);
+            all_taken = λ w. (
+              subst (Consumes left₀ left') (append-nil input) (consumes_then left₀ left left' input [] (going.taken n) (i.none_left w).0),
+              (i.none_left w).1,
+            );
+            given = appends_then held₀ held held' g.fed.answers (take f.waiting out') going.given a;
           };
           stopped = λ w. absurd (false≢true w);
         };
-        less = omega (arith, h, r.within, buf_long, ap undone on);
-        same = r.long ∙ buf_long;
+        less = omega (arith, h, i.within, buf_long, ap undone on);
+        same = i.long ∙ buf_long;
       }
-  turn_on (fails {buf' = b} h k) = record { stands = broken_stands refl refl b; less = omega (arith, (left_most p).0, ap undone on); same = h.long ∙ buf_long }
-  turn_on (none h) = record { stands = broken_stands refl refl buf'; less = omega (arith, (left_most p).0, ap undone on); same = buf_long }
+  turn_on a (fails {buf' = b} h k) = record { stands = broken_stands refl refl b; less = omega (arith, (left_most p).0, ap undone on); same = h.long ∙ buf_long }
+  turn_on a (none h) = record { stands = broken_stands refl refl buf'; less = omega (arith, (left_most p).0, ap undone on); same = buf_long }
 
-  turn_off : {s : Progress} {b : List ℕ} → ReadOnIs (broken (after q f)) buf' s b → Turned s b
+  turn_off : {s : Progress} {b : List ℕ} {left' held' : Option (List ℕ)} → ReadOnIs (broken (after q f)) buf' left s b left' → Turned s b left' held'
   turn_off (stays h) = record { stands = broken_stands refl refl buf'; less = omega (arith, (left_most p).0, ap undone on); same = buf_long }
   turn_off (ends e z h) = absurd (false≢true (sym e))
-  turn_off (reads e z h r k) = absurd (false≢true (sym e))
+  turn_off (reads e z n h i k) = absurd (false≢true (sym e))
   turn_off (fails {buf' = b} h k) = record { stands = broken_stands refl refl b; less = omega (arith, (left_most p).0, ap undone on); same = h.long ∙ buf_long }
   turn_off (none h) = record { stands = broken_stands refl refl buf'; less = omega (arith, (left_most p).0, ap undone on); same = buf_long }
 
@@ -233,42 +344,21 @@ module _ {q : Progress} {ids days buf out : List ℕ} {f : Fed} {ids' days' buf'
   rest_off = record { none_read = refl; none_waits = λ e. absurd (false≢true (sym e)); room = λ e. absurd (false≢true (sym e)) }
 
 -- what `play` left of q, its answers written or not
-module _ {q : Progress} {ids days buf out : List ℕ} {m : Progress} {ids' days' buf' out' : List ℕ} {r : Progress} (on : q.over ≡ false) (g : Ready q ids days buf) (long : length buf ≡ 65536)
-    (room : answer_room ≤ length out) (p : PlayedIs q ids days buf out m ids' days' buf' out') where
-  pub rests : (r ≡ written m) ⊎ (r ≡ broken m) → Rests r buf'
-  rests (inl e) = subst (λ (x : Progress). Rests x buf') (sym (e ∙ ap written p.rest)) (rest_on on g long room p.fed)
-  rests (inr e) = subst (λ (x : Progress). Rests x buf') (sym (e ∙ ap broken p.rest)) (rest_off on g long room p.fed)
+module _ {left₀ left held₀ held : Option (List ℕ)} {q : Progress} {ids days buf out : List ℕ} {m : Progress} {ids' days' buf' out' : List ℕ} {r : Progress} {held' : Option (List ℕ)}
+    (on : q.over ≡ false) (g : Going left₀ left held₀ held q ids days buf) (long : length buf ≡ 65536) (room : answer_room ≤ length out)
+    (p : PlayedIs q ids days buf out m ids' days' buf' out') where
+  pub rests : PutIs m out' held held' r → Rests r buf'
+  rests (wrote e a) = subst (λ (x : Progress). Rests x buf') (sym (e ∙ ap written p.rest)) (rest_on on g long room p.fed)
+  rests (unwritten e) = subst (λ (x : Progress). Rests x buf') (sym (e ∙ ap broken p.rest)) (rest_off on g long room p.fed)
 
-  pub turned : {s : Progress} {b : List ℕ} → (r ≡ written m) ⊎ (r ≡ broken m) → ReadOnIs r buf' s b → Turned on g long room p.fed s b
-  turned {s} {b} (inl e) h = turn_on on g long room p.fed (subst (λ (x : Progress). ReadOnIs x buf' s b) (e ∙ ap written p.rest) h)
-  turned {s} {b} (inr e) h = turn_off on g long room p.fed (subst (λ (x : Progress). ReadOnIs x buf' s b) (e ∙ ap broken p.rest) h)
-
--- ---- a test by `not`
-
-pub goes_on : {b c : Bool} → b ≡ c → not b ≡ true → c ≡ false
-goes_on {b} {c} e h = sym e ∙ go b h
-  where
-    go : (b : Bool) → not b ≡ true → b ≡ false
-    go true h = absurd (false≢true h)
-    go false h = refl
-
-pub has_ended : {b c : Bool} → b ≡ c → not b ≡ false → c ≡ true
-has_ended {b} {c} e h = sym e ∙ go b h
-  where
-    go : (b : Bool) → not b ≡ false → b ≡ true
-    go true h = refl
-    go false h = absurd (false≢true (sym h))
+  pub turned : {s : Progress} {b : List ℕ} {left' : Option (List ℕ)} → PutIs m out' held held' r → ReadOnIs r buf' left s b left' → Turned on g long room p.fed s b left' held'
+  turned {s} {b} {left'} (wrote e a) h =
+      turn_on on g long room p.fed a (subst (λ (x : Progress). ReadOnIs x buf' left s b left') (e ∙ ap written p.rest) h)
+  turned {s} {b} {left'} (unwritten e) h = turn_off on g long room p.fed (subst (λ (x : Progress). ReadOnIs x buf' left s b left') (e ∙ ap broken p.rest) h)
 
 -- ---- a write
 
-pub either : {p r : Progress} (ok : Bool) → r ≡ cond ok (written p) (broken p) → (r ≡ written p) ⊎ (r ≡ broken p)
-either true e = inl e
-either false e = inr e
-
-pub unsettled : (p : Progress) (ok : Bool) {r : Progress} → not ok ≡ true → r ≡ broken p → r ≡ cond ok (written p) (broken p)
-unsettled p true h e = absurd (false≢true h)
-unsettled p false h e = e
-
-pub settled : (p : Progress) (ok : Bool) → not ok ≡ false → written p ≡ cond ok (written p) (broken p)
-settled p true h = refl
-settled p false h = absurd (false≢true (sym h))
+pub put_is : {p r : Progress} {out : List ℕ} {held held' : Option (List ℕ)} (ok : Bool) → (ok ≡ true → Appends held held' (take p.fed.waiting out))
+    → r ≡ cond ok (written p) (broken p) → PutIs p out held held' r
+put_is true a e = wrote e (a refl)
+put_is false a e = unwritten e

@@ -1,9 +1,9 @@
 -- Where the program stands between its calls, and what is asked of whoever hands it on. Assumes nothing.
-use Rattle.std.specs.Prelude.{◌≡◌, true, false, ◌⊎◌, List, ◌++◌, ℕ, ◌+◌, ◌≤◌, length, take, drop}
+use Rattle.std.specs.Prelude.{◌≡◌, true, false, ◌⊎◌, Option, List, ◌++◌, ℕ, ◌+◌, ◌≤◌, length, take, drop}
+use Rattle.std.specs.Io.KnownBytes.{Consumes, Appends, IsAtEnd}
 use Rattle.rules.specs.Machine.{empty}
 use Rattle.table.specs.declared.Table.{Table}
 use Rattle.tally_kept.specs.Kept.{last_end}
-use Rattle.tally_feed.specs.declared.Fed.{Fed}
 use Rattle.tally_feed.specs.Feed.{FedIs}
 use Rattle.tally_feed.specs.Reads as Fed
 use Rattle.tally_feed.specs.Reads.{begun, input_lines, Answered}
@@ -84,6 +84,11 @@ pub record Waiting (p : Progress) (answers : List ℕ) : Type 0 where
   pub given : Given p out
   pub is : answers ≡ take p.fed.waiting out
 
+-- they are written, as far as it is known what the output holds, or the write failed
+pub data PutIs (p : Progress) (out : List ℕ) (held held' : Option (List ℕ)) (r : Progress) : Type 0 where
+  wrote : r ≡ written p → Appends held held' (take p.fed.waiting out) → PutIs p out held held' r
+  unwritten : r ≡ broken p → PutIs p out held held' r
+
 -- a record is that of an input whose lines are all answered, from the fresh record on
 abbrev pub AllAnswered : Table → ℕ → Type 0
 AllAnswered t used = (ids : List ℕ) × (days : List ℕ) × (input : List ℕ) × (answers : List ℕ) × Answered empty (input_lines input) answers t ids days used
@@ -96,3 +101,19 @@ pub record Over (p : Progress) : Type 0 where
 -- so it is at the program's end
 abbrev pub Served : Finished → Type 0
 Served r = (r.failed ≡ true) ⊎ AllAnswered r.table r.used
+
+-- a record is that of an input that was read to its end, and the answers to all its lines are what was written: of what the input had left and the output held
+-- before and after, where that is known
+pub record WholeAnswered (left left' held held' : Option (List ℕ)) (t : Table) (used : ℕ) : Type 0 where
+  pub ids : List ℕ
+  pub days : List ℕ
+  pub input : List ℕ
+  pub answers : List ℕ
+  pub answered : Answered empty (input_lines input) answers t ids days used
+  pub read : Consumes left left' input
+  pub at_end : IsAtEnd left'
+  pub written : Appends held held' answers
+
+-- so it is at the end: a read or a write failed, or the whole input is answered
+abbrev pub WholeServed : Option (List ℕ) → Option (List ℕ) → Option (List ℕ) → Option (List ℕ) → Finished → Type 0
+WholeServed left left' held held' r = (r.failed ≡ true) ⊎ WholeAnswered left left' held held' r.table r.used

@@ -1,11 +1,15 @@
 // Where the program stands between its calls. The fields are this module's own: who plays the input can hand a `Progress` on and cannot make one up, so it
 // cannot say itself that no answer waits, that nothing was read, or that the input has ended.
-ghost use Rattle.std.specs.Prelude.{◌≡◌, cond, ◌⊎◌, ◌<◌, ◌≤◌, length};
+ghost use Rattle.std.specs.Prelude.{◌≡◌, true, cond, ◌<◌, ◌≤◌, length};
+ghost use Rattle.std.specs.Io.KnownBytes.{Appends};
+ghost use Rattle.std.specs.Process.{exit_status};
 ghost use Rattle.lines.specs.Text.{answer_room};
-ghost use Rattle.tally.specs.Progress.{started, written, broken, ended, Ready, PlayedIs, Given, Waiting, Over};
+ghost use Rattle.tally.specs.Progress.{started, written, broken, ended, Ready, PlayedIs, Given, Waiting, PutIs, Over};
 ghost use Rattle.tally.specs.ReadOn.{ReadIs, Rests, ReadOnIs};
 
-use libc::{STDERR_FILENO, STDIN_FILENO, STDOUT_FILENO};
+use std::io;
+use std::io::{Read, Write};
+use std::process::ExitCode;
 use table::Table;
 use tally_feed::{Fed, feed};
 use tally_kept::end_line;
@@ -33,7 +37,7 @@ pub struct Finished {
 // What a read gave: what it said, how many bytes are to be played behind those that were left, whether the input has ended, and whether the read failed.
 #[derive(Drop)]
 struct Got {
-    said: isize,
+    said: io::Result<usize>,
     n: usize,
     ended: bool,
     failed: bool,
@@ -59,8 +63,8 @@ pub fn begin(table: Table, used: usize) -> Progress
     }
 }
 
-pub fn is_over(p: Progress) -> bool
-    ensures { result ≡ p.over }
+pub fn is_over(p: &Progress) -> bool
+    ensures { result ≡ p.now.over }
 {
     p.over
 }
@@ -104,28 +108,33 @@ fn stop(p: Progress) -> Progress
 }
 
 // Says on standard error that the program ends before its input does.
-fn tell_unread() {
-    io::write_all(STDERR_FILENO, b"tally: standard input cannot be read\n");
+fn tell_unread(rt: &HostRuntime) {
+    let _ = rt
+        .stderr()
+        .write_all(b"tally: standard input cannot be read\n");
 }
 
 // The same of standard output, where not all was written.
-fn tell_unwritten() {
-    io::write_all(STDERR_FILENO, b"tally: standard output cannot be written\n");
+fn tell_unwritten(rt: &HostRuntime) {
+    let _ = rt
+        .stderr()
+        .write_all(b"tally: standard output cannot be written\n");
 }
 
-// Hands bytes to standard output. What reaches it no contract can say; so it is asked that they are the answers that wait, all of them.
-fn write_answers(p: Progress, answers: &[u8]) -> bool
-    requires { Waiting p answers.now }
+// Hands bytes to the output. What reaches standard output no contract can say; so it is asked too that they are the answers that wait, all of them.
+fn write_answers<W: Write>(output: &mut W, p: &Progress, answers: &[u8]) -> bool
+    requires { Waiting p.now answers.now }
+    ensures { result ≡ true → Appends (W.contents output.old) (W.contents output.new) answers.now }
 {
-    io::write_all(STDOUT_FILENO, answers)
+    output.write_all(answers).is_ok()
 }
 
 // Once the answers that waited are written, or were not.
-fn settle(p: Progress, ok: bool) -> Progress
+fn settle(rt: &HostRuntime, p: Progress, ok: bool) -> Progress
     ensures { result ≡ cond ok (written p) (broken p) }
 {
     if !ok {
-        tell_unwritten();
+        tell_unwritten(rt);
         return stop(p);
     }
     let fed = p.fed;
@@ -147,23 +156,23 @@ fn settle(p: Progress, ok: bool) -> Progress
 }
 
 // Writes the answers that wait in `out`, which is what `play` left.
-pub fn put(p: Progress, out: &[u8]) -> Progress
+pub fn put<W: Write>(rt: &HostRuntime, output: &mut W, p: Progress, out: &[u8]) -> Progress
     requires { Given p out.now }
-    ensures { (result ≡ written p) ⊎ (result ≡ broken p) }
+    ensures { PutIs p out.now (W.contents output.old) (W.contents output.new) result }
 {
-    let fed = p.fed;
-    let waiting = fed.waiting;
-    settle(p, write_answers(p, &out[..waiting]))
+    let waiting = p.fed.waiting;
+    let ok = write_answers(output, &p, &out[..waiting]);
+    settle(rt, p, ok)
 }
 
 // Reads behind the first `left` bytes of `buf`. At the end of the input the last line gets its end, where it lacks it.
-fn read_behind(buf: &mut [u8], left: usize) -> Got
+fn read_behind<R: Read>(input: &mut R, buf: &mut [u8], left: usize) -> Got
     requires { left < length buf.old }
-    ensures { ReadIs buf.old left result buf.new }
+    ensures { ReadIs (R.remaining input.old) (R.remaining input.new) buf.old left result buf.new }
 {
-    let said = libc::read(STDIN_FILENO, &mut buf[left..]);
-    let n = io::count(said, &buf[left..]);
-    if said < 0 {
+    let said = input.read(&mut buf[left..]);
+    let n = said.unwrap_or(0);
+    if said.is_err() {
         return Got {
             said: said,
             n: 0,
@@ -189,20 +198,19 @@ fn read_behind(buf: &mut [u8], left: usize) -> Got
 }
 
 // Where no line was played, none is left: then more is read, and where the input has ended, it is over.
-pub fn read_on(p: Progress, buf: &mut [u8]) -> Progress
+pub fn read_on<R: Read>(rt: &HostRuntime, input: &mut R, p: Progress, buf: &mut [u8]) -> Progress
     requires { Rests p buf.old }
-    ensures { ReadOnIs p buf.old result buf.new }
+    ensures { ReadOnIs p buf.old (R.remaining input.old) result buf.new (R.remaining input.new) }
 {
     if p.over {
         return p;
     }
-    let fed = p.fed;
-    if fed.read != 0 {
+    if p.fed.read != 0 {
         return p;
     }
     if p.ended {
         return Progress {
-            fed: fed,
+            fed: p.fed,
             n: 0,
             ended: true,
             over: true,
@@ -211,17 +219,17 @@ pub fn read_on(p: Progress, buf: &mut [u8]) -> Progress
         };
     }
     if p.reads == 0 {
-        tell_unread();
+        tell_unread(rt);
         return stop(p);
     }
-    let left = fed.left;
-    let got = read_behind(buf, left);
+    let left = p.fed.left;
+    let got = read_behind(input, buf, left);
     if got.failed {
-        tell_unread();
+        tell_unread(rt);
         return stop(p);
     }
     Progress {
-        fed: fed,
+        fed: p.fed,
         n: got.n,
         ended: got.ended,
         over: false,
@@ -242,4 +250,14 @@ pub fn finish(p: Progress) -> Finished
         used: fed.used,
         failed: p.failed,
     }
+}
+
+// The status that the program ends with: 1 where a read or a write failed, else 0.
+pub fn status(f: Finished) -> ExitCode
+    ensures { exit_status result ≡ cond f.failed 1 0 }
+{
+    if f.failed {
+        return ExitCode::FAILURE;
+    }
+    ExitCode::SUCCESS
 }

@@ -1,4 +1,6 @@
 // What the program does with the text that it has read: whole lines are played, their answers stand in a lent buffer, and what is left is moved to the front.
+#![tactic(auto)]
+
 ghost use Rattle.std.specs.Prelude.{◌+◌, ◌≤◌, length};
 ghost use Rattle.lines.specs.Text.{answer_room};
 ghost use Rattle.tally_feed.specs.Feed.{FedIs};

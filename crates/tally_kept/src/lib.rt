@@ -1,4 +1,6 @@
 // What is kept of a text once its whole lines are played.
+#![tactic(auto)]
+
 ghost use Rattle.std.specs.Prelude.{◌≡◌, ◌-◌, ◌<◌, ◌≤◌, length};
 ghost use Rattle.octets.specs.Octets.{part, write};
 ghost use Rattle.tally_kept.specs.Kept.{cut_length, kept_length, last_end};
