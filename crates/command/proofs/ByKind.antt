@@ -6,8 +6,8 @@ use Prim.Native.Nat.{ℕ, ◌+◌, ◌<◌}
 use lib.ListN.{length, get_or}
 use borrow.Author.Tests.{eqb-true}
 use Rattle.octets.proofs.Numbers.{both}
-use Rattle.frame.specs.Field.{Field, width, may, are_fields}
-use Rattle.frame.specs.Frame.{Kind, kind_byte, fields_of, layout, is_frame, commands_of}
+use Rattle.frame.specs.Field.{Field, size, width, may, are_fields}
+use Rattle.frame.specs.Frame.{Kind, K01, K02, K03, K04, K05, K06, K0a, K0c, K13, kind_byte, fields_of, layout, is_frame, commands_of}
 use Rattle.frame.proofs.Fields.{fields_within}
 pub use Rattle.frame.proofs.Commands.{kind_fields, kind_command}
 use Rattle.command.specs.declared.Command.{Command as Ordered}
@@ -37,6 +37,15 @@ frame_none b h = rw h
 -- where a known kind's fields end
 pub kind_length : (k : Kind) (b : List ℕ) → is_frame b ≡ true → get_or b 0 0 ≡ kind_byte k → length b ≡ end (fields_of k) b 1
 kind_length k b h e = fields_end (fields_of k) b 1 (kind_fields k b h e)
+
+-- of each kind whose frames are all as long
+pub frame_lengths : (b : List ℕ) → is_frame b ≡ true
+    → (get_or b 0 0 ≡ 1 → length b ≡ 7) × (get_or b 0 0 ≡ 2 → length b ≡ 15) × (get_or b 0 0 ≡ 3 → length b ≡ 15) × (get_or b 0 0 ≡ 4 → length b ≡ 15)
+    × (get_or b 0 0 ≡ 5 → length b ≡ 23) × (get_or b 0 0 ≡ 6 → length b ≡ 22) × (get_or b 0 0 ≡ 10 → length b ≡ 5) × (get_or b 0 0 ≡ 12 → length b ≡ 8)
+    × (get_or b 0 0 ≡ 19 → length b ≡ 7)
+unfolding kind_byte fields_of end width size
+frame_lengths b h =
+    (kind_length K01 b h, kind_length K02 b h, kind_length K03 b h, kind_length K04 b h, kind_length K05 b h, kind_length K06 b h, kind_length K0a b h, kind_length K0c b h, kind_length K13 b h)
 
 -- ---- an order by its command
 

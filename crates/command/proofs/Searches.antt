@@ -5,13 +5,12 @@ use mathlib.Core.List.{List, [], ◌∷◌, ◌++◌}
 use Prim.Native.Nat.{ℕ, ◌+◌, ◌-◌, ◌≤◌}
 use native.Mathlib.Omega.{arith}
 use lib.ListN.{length, get_or, drop, length-drop, take-append-drop}
-use lib.Seq.{take_all, drop-drop, get_or-drop}
+use lib.Seq.{drop-drop, get_or-drop}
 use lib.IntN.{ℤ}
 use lib.Dec.{leb, eqb}
 use borrow.Author.Tests.{leb-true, eqb-true}
-use Rattle.octets.specs.Octets.{part, write}
+use Rattle.octets.specs.Octets.{part}
 use Rattle.octets.proofs.Numbers.{both}
-use Rattle.octets.proofs.Places.{part_length, write_part}
 use Rattle.rules.specs.Command as Rule
 use Rattle.rules.specs.Command.{is_few}
 use Rattle.frame_fields.specs.Place.{six_digits, word_at}
@@ -77,12 +76,3 @@ module _ (b : List ℕ) (good : is_frame b ≡ true) (e : get_or b 0 0 ≡ 11) w
       ap (λ (k : Rule.Command). k ∷ [])
       (ap₂ Rule.Search (header_is b id h head same) (ap (λ (k : ℕ). conditions_in k a) c ∙ kept a f ∙ sym (held w search_at.whole)))
       ∙ sym (kind_command K0b b good e)
-
--- all that stands behind the count, copied to the beginning of an array
-pub copied : (b l m : List ℕ) (n : ℕ) → m ≡ write l 0 (part 48 n b) → n ≡ length b - 48 → 48 ≤ length b → length b - 48 ≤ length l → part 0 (length b - 48) m ≡ drop 48 b
-unfolding part
-copied b l m n f e h g =
-    let w : length (part 48 n b) ≡ n = part_length 48 n b (omega arith) in
-    let p : part 0 (length b - 48) m ≡ part 48 n b =
-    ap₂ (λ (k : ℕ) (t : List ℕ). part 0 k t) (sym (w ∙ e)) f ∙ write_part l 0 (part 48 n b) (omega (arith, w)) in
-    p ∙ take_all n (drop 48 b) (omega (arith, length-drop 48 b))

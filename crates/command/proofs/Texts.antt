@@ -1,6 +1,6 @@
 -- The conditions of a search in an array: when they are in range, and their bytes, which stand there as they are. Assumes nothing.
 use mathlib.Core.Path.{◌≡◌, refl, sym, ap, ap₂, ◌∙◌}
-use mathlib.Core.Bool.{Bool, true, false, cond, ◌&&◌, and-true}
+use mathlib.Core.Bool.{Bool, true, false, ◌&&◌, and-true}
 use mathlib.Core.List.{List}
 use Prim.Native.Nat.{ℕ, zero, suc, ◌+◌, ◌-◌, ◌*◌, ◌^◌, ◌≤◌, ◌<◌, min}
 use native.Mathlib.Omega.{arith}
@@ -78,27 +78,3 @@ search_formed h id i d n v l b =
     and_both (is_header (to_header h id) && is_few (length (conditions_in n v))) (every is_condition (conditions_in n v)) ((is_code h.sender && leb h.second 86399) && is_few n) (are_conditions n v)
     (ap₂ ◌&&◌ (header_formed h id i d) (ap is_few (conditions_count n v)))
     (λ e. conditions_range n v (omega (arith, (few_most h n e).1)) b)
-
--- where the conditions end: nowhere, or behind all of them
-module _ (n : ℕ) (v : List ℕ) (end : ℕ) (e : end ≡ cond (are_conditions n v) (0 + conditions_width n v) 0) (p : 1 ≤ n) where
-  some_width : 0 < conditions_width n v
-  unfolding conditions_width first_width
-  some_width = go n p
-    where
-      go : (m : ℕ) → 1 ≤ m → 0 < conditions_width m v
-      go zero q = absurd (omega arith)
-      go (suc m) q = omega arith
-
-  pub end_none : end ≡ 0 → are_conditions n v ≡ false
-  end_none z = go (are_conditions n v) refl
-    where
-      go : (t : Bool) → are_conditions n v ≡ t → t ≡ false
-      go true f = absurd (omega (arith, e ∙ ap (λ (t : Bool). cond t (0 + conditions_width n v) 0) f, some_width))
-      go false f = refl
-
-  pub end_some : (end ≡ 0 → ⊥) → (are_conditions n v ≡ true) × (end ≡ conditions_width n v)
-  end_some z = go (are_conditions n v) refl
-    where
-      go : (t : Bool) → are_conditions n v ≡ t → (are_conditions n v ≡ true) × (end ≡ conditions_width n v)
-      go true f = (f, omega (arith, e ∙ ap (λ (t : Bool). cond t (0 + conditions_width n v) 0) f))
-      go false f = absurd (z (e ∙ ap (λ (t : Bool). cond t (0 + conditions_width n v) 0) f))

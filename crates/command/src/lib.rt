@@ -59,96 +59,20 @@ pub fn is_header(h: Header) -> bool
     is_code(h.sender) & (h.second <= 86_399)
 }
 
-// A byte as a count.
-fn size(x: u8) -> usize
-    ensures { result ≡ x }
-{
-    x as usize
-}
-
-// 01: code.
-fn bank(b: &[u8]) -> Command
-    requires { length b.now ≡ 7 }
-    ensures { result ≡ Command.Bank (decimal 0 (part 1 6 b.now)) }
-{
-    Command::Bank(code_at(b, 1))
-}
-
-// 02: code, owner, LTK method, LPO method.
-fn branch(b: &[u8]) -> Command
-    requires { length b.now ≡ 15 }
-    ensures { result ≡ Command.Branch (decimal 0 (part 1 6 b.now)) (decimal 0 (part 7 6 b.now)) (get_or b.now 13 0) (get_or b.now 14 0) }
-{
-    Command::Branch(code_at(b, 1), code_at(b, 7), b[13], b[14])
-}
-
-// 03: code, amount.
-fn funding(b: &[u8]) -> Command
-    requires { length b.now ≡ 15 }
-    ensures { result ≡ Command.Funding (decimal 0 (part 1 6 b.now)) (signed (number (part 7 8 b.now))) }
-{
-    Command::Funding(code_at(b, 1), i64_at(b, 7))
-}
-
-// 04: code, amount.
-fn withdrawal(b: &[u8]) -> Command
-    requires { length b.now ≡ 15 }
-    ensures { result ≡ Command.Withdrawal (decimal 0 (part 1 6 b.now)) (signed (number (part 7 8 b.now))) }
-{
-    Command::Withdrawal(code_at(b, 1), i64_at(b, 7))
-}
-
-// 05: code, LTK, LPO.
-fn bank_limits(b: &[u8]) -> Command
-    requires { length b.now ≡ 23 }
-    ensures { result ≡ Command.BankLimits (decimal 0 (part 1 6 b.now)) (signed (number (part 7 8 b.now))) (signed (number (part 15 8 b.now))) }
-{
-    Command::BankLimits(code_at(b, 1), i64_at(b, 7), i64_at(b, 15))
-}
-
-// 06: 0 credit or 1 debit, sender, receiver, amount.
-fn payment(b: &[u8]) -> Command
-    requires { length b.now ≡ 22 }
-    ensures { result ≡ Command.Payment (get_or b.now 1 0) (decimal 0 (part 2 6 b.now)) (decimal 0 (part 8 6 b.now)) (signed (number (part 14 8 b.now))) }
-{
-    Command::Payment(b[1], code_at(b, 2), code_at(b, 8), i64_at(b, 14))
-}
-
-// 0a: day.
-fn opening(b: &[u8]) -> Command
-    requires { length b.now ≡ 5 }
-    ensures { result ≡ Command.Opening (number (part 1 4 b.now)) }
-{
-    Command::Opening(u32_at(b, 1))
-}
-
-// 0c: code, letters.
-fn letters(b: &[u8]) -> Command
-    requires { length b.now ≡ 8 }
-    ensures { result ≡ Command.Letters (decimal 0 (part 1 6 b.now)) (get_or b.now 7 0) }
-{
-    Command::Letters(code_at(b, 1), b[7])
-}
-
-// 13: code.
-fn mark(b: &[u8]) -> Command
-    requires { length b.now ≡ 7 }
-    ensures { result ≡ Command.Mark (decimal 0 (part 1 6 b.now)) }
-{
-    Command::Mark(code_at(b, 1))
-}
+// An order of nothing, whose arrays are those of a command without arrays.
+const EMPTY: Order = Order {
+    command: Command::Nothing,
+    id: [0; 32],
+    accounts: [0; 160],
+    types: [0; 16],
+    values: [0; 16],
+};
 
 // A command without arrays.
-fn alone(c: Command) -> Order
-    ensures { result.command ≡ c }
+fn alone(command: Command) -> Order
+    ensures { result.command ≡ command }
 {
-    Order {
-        command: c,
-        id: [0; 32],
-        accounts: [0; 160],
-        types: [0; 16],
-        values: [0; 16],
-    }
+    Order { command, ..EMPTY }
 }
 
 // The header of a message, but for its id.
@@ -164,12 +88,13 @@ fn header_at(b: &[u8]) -> Header
 }
 
 // The id of a header.
+#[tactic(auto, unfolding(octets::specs::Octets::part))]
 fn id_at(b: &[u8]) -> [u8; 32]
     requires { 47 ≤ length b.now }
     ensures { result ≡ part 7 32 b.now }
 {
-    let mut id = [0u8; 32];
-    copy(b, 7, 32, &mut id, 0);
+    let mut id = [0; 32];
+    id.copy_from_slice(&b[7..39]);
     id
 }
 
@@ -179,10 +104,8 @@ fn accounts_at(b: &[u8], from: usize, n: usize, row: usize) -> [u8; 160]
     ensures { (k : ℕ) → k < n → part (k * 10) 10 result ≡ part (from + k * row) 10 b.now }
 {
     let mut accounts = [0u8; 160];
-    let mut i = 0;
-    while i < n {
+    for i in 0..n {
         copy(b, from + i * row, 10, &mut accounts, i * 10);
-        i += 1;
     }
     accounts
 }
@@ -193,10 +116,8 @@ fn types_at(b: &[u8], n: usize) -> [u8; 16]
     ensures { (k : ℕ) → k < n → get_or result k 0 ≡ get_or b.now (48 + k * 19 + 10) 0 }
 {
     let mut types = [0u8; 16];
-    let mut i = 0;
-    while i < n {
+    for i in 0..n {
         types[i] = b[48 + i * 19 + 10];
-        i += 1;
     }
     types
 }
@@ -207,10 +128,8 @@ fn values_at(b: &[u8], n: usize) -> [i64; 16]
     ensures { (k : ℕ) → k < n → get_or result k (pos 0) ≡ signed (number (part (48 + k * 19 + 11) 8 b.now)) }
 {
     let mut values = [0i64; 16];
-    let mut i = 0;
-    while i < n {
+    for i in 0..n {
         values[i] = i64_at(b, 48 + i * 19 + 11);
-        i += 1;
     }
     values
 }
@@ -220,7 +139,7 @@ fn change(b: &[u8]) -> Order
     requires { (is_frame b.now ≡ true) × (get_or b.now 0 0 ≡ 7) }
     ensures { ordered result ≡ commands_of b.now }
 {
-    let n = size(b[47]);
+    let n = usize::from(b[47]);
     Order {
         command: Command::Change(header_at(b), n),
         id: id_at(b),
@@ -239,8 +158,7 @@ fn deletion(b: &[u8]) -> Order
         command: Command::Deletion(header_at(b), b[57]),
         id: id_at(b),
         accounts: accounts_at(b, 47, 1, 10),
-        types: [0; 16],
-        values: [0; 16],
+        ..EMPTY
     }
 }
 
@@ -249,24 +167,24 @@ fn query(b: &[u8]) -> Order
     requires { (is_frame b.now ≡ true) × (get_or b.now 0 0 ≡ 9) }
     ensures { ordered result ≡ commands_of b.now }
 {
-    let n = size(b[47]);
+    let n = usize::from(b[47]);
     Order {
         command: Command::Query(header_at(b), n),
         id: id_at(b),
         accounts: accounts_at(b, 48, n, 10),
-        types: [0; 16],
-        values: [0; 16],
+        ..EMPTY
     }
 }
 
 // The conditions of a search, as they stand behind their count.
+#[tactic(auto, unfolding(octets::specs::Octets::part))]
 fn conditions_of(b: &[u8]) -> [u8; 160]
     requires { (48 ≤ length b.now) × (length b.now ≤ 208) }
     ensures { part 0 (length b.now - 48) result ≡ drop 48 b.now }
 {
-    let n = b.len() - 48;
-    let mut texts = [0u8; 160];
-    copy(b, 48, n, &mut texts, 0);
+    let conditions = &b[48..];
+    let mut texts = [0; 160];
+    texts[..conditions.len()].copy_from_slice(conditions);
     texts
 }
 
@@ -275,38 +193,37 @@ fn search(b: &[u8]) -> Order
     requires { (is_frame b.now ≡ true) × (get_or b.now 0 0 ≡ 11) }
     ensures { ordered result ≡ commands_of b.now }
 {
-    let n = size(b[47]);
+    let n = usize::from(b[47]);
     Order {
         command: Command::Search(header_at(b), n),
         id: id_at(b),
         accounts: conditions_of(b),
-        types: [0; 16],
-        values: [0; 16],
+        ..EMPTY
     }
 }
 
-// The command that a frame holds; none where the bytes are no frame.
+// The command that a frame holds, its fields in the frame's order; none where the bytes are no frame.
+#[tactic(auto, using(crate::proofs::ByKind::frame_lengths, crate::proofs::ByKind::frame_some))]
 pub fn parse(b: &[u8]) -> Order
     ensures { ordered result ≡ commands_of b.now }
 {
     if !well_formed(b) {
-        return alone(Command::Nothing);
+        return EMPTY;
     }
-    let kind = b[0];
-    match kind {
-        1 => alone(bank(b)),
-        2 => alone(branch(b)),
-        3 => alone(funding(b)),
-        4 => alone(withdrawal(b)),
-        5 => alone(bank_limits(b)),
-        6 => alone(payment(b)),
+    match b[0] {
+        1 => alone(Command::Bank(code_at(b, 1))),
+        2 => alone(Command::Branch(code_at(b, 1), code_at(b, 7), b[13], b[14])),
+        3 => alone(Command::Funding(code_at(b, 1), i64_at(b, 7))),
+        4 => alone(Command::Withdrawal(code_at(b, 1), i64_at(b, 7))),
+        5 => alone(Command::BankLimits(code_at(b, 1), i64_at(b, 7), i64_at(b, 15))),
+        6 => alone(Command::Payment(b[1], code_at(b, 2), code_at(b, 8), i64_at(b, 14))),
         7 => change(b),
         8 => deletion(b),
         9 => query(b),
-        10 => alone(opening(b)),
+        10 => alone(Command::Opening(u32_at(b, 1))),
         11 => search(b),
-        12 => alone(letters(b)),
-        19 => alone(mark(b)),
-        _ => alone(Command::Nothing),
+        12 => alone(Command::Letters(code_at(b, 1), b[7])),
+        19 => alone(Command::Mark(code_at(b, 1))),
+        _ => EMPTY,
     }
 }

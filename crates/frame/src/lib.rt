@@ -1,7 +1,7 @@
 // Whether bytes are a frame.
 #![tactic(auto)]
 
-ghost use Rattle.std.specs.Prelude.{◌≡◌, cond, [], length};
+ghost use Rattle.std.specs.Prelude.{◌≡◌, cond, length, Some, None};
 ghost use Rattle.frame.specs.Frame.{is_frame};
 
 use frame_fields::{at, conditions_at, is_code_at, rows_at, second_at};
@@ -32,9 +32,9 @@ pub fn well_formed(b: &[u8]) -> bool
     }
 }
 
-// How many bytes the frame has that b is: 0 where b is none.
-pub fn frame_length(b: &[u8]) -> usize
-    ensures { result ≡ length (cond (is_frame b.now) b.now []) }
+// How many bytes the frame has that b is, where it is one.
+pub fn frame_length(b: &[u8]) -> Option<usize>
+    ensures { result ≡ cond (is_frame b.now) (Some (length b.now)) None }
 {
-    if well_formed(b) { b.len() } else { 0 }
+    well_formed(b).then_some(b.len())
 }

@@ -1,17 +1,15 @@
 -- Laws of a walk over conditions, one after the other. Assumes nothing.
 use mathlib.Core.Path.{◌≡◌, refl, sym, ap, ap₂, ◌∙◌, subst}
-use mathlib.Core.Bool.{Bool, true, false, cond, ◌&&◌, ◌||◌}
+use mathlib.Core.Bool.{Bool, true, false, ◌&&◌, ◌||◌}
 use mathlib.Core.List.{List}
 use Prim.Native.Nat.{ℕ, suc, ◌+◌, ◌-◌, ◌≤◌, ◌<◌}
 use native.Mathlib.Omega.{arith}
 use lib.ListN.{length, take, drop, get_or, length-drop}
 use lib.Seq.{get_or-drop, drop-drop}
-use lib.Dec.{leb, eqb}
-use borrow.Author.Tests.{le-leb}
 use Rattle.octets.specs.Octets.{part}
 use Rattle.octets.proofs.Numbers.{both}
 use Rattle.octets.proofs.Places.{part_length}
-use Rattle.rules.specs.Command.{Condition, some?, is_form, is_few}
+use Rattle.rules.specs.Command.{Condition, some?, is_form}
 use Rattle.frame_fields.specs.Conditions.{first_width, first_of, conditions_in, conditions_width, are_conditions, ConditionsFirst}
 
 -- the condition that begins at a place
@@ -137,25 +135,3 @@ test_none bs = (refl, refl)
 pub walk_none : (bs : List ℕ) (p : Condition → Bool) → some? p (conditions_in 0 bs) ≡ false
 unfolding conditions_in some?
 walk_none bs p = refl
-
--- ---- a frame's conditions: the count at 47, and as many up to the end
-
-abbrev pub Whole : List ℕ → ℕ → Bool
-Whole b k = (is_few k && are_conditions k (drop 48 b)) && eqb (length b) (47 + (1 + conditions_width k (drop 48 b)))
-
-module _ (b : List ℕ) (k : ℕ) where
-  pub whole_count : is_few k ≡ false → Whole b k ≡ false
-  whole_count h = rw h
-
-  -- the place behind the conditions, or 0
-  pub whole_end : (p : ℕ) → is_few k ≡ true → p ≡ cond (are_conditions k (drop 48 b)) (48 + conditions_width k (drop 48 b)) 0 → Whole b k ≡ (leb 48 p && eqb (length b) p)
-  whole_end p h e = go (are_conditions k (drop 48 b)) refl
-    where
-      go : (t : Bool) → are_conditions k (drop 48 b) ≡ t → Whole b k ≡ (leb 48 p && eqb (length b) p)
-      go true f =
-          let q : p ≡ 48 + conditions_width k (drop 48 b) = e ∙ ap (λ (t : Bool). cond t (48 + conditions_width k (drop 48 b)) 0) f in
-          let s : 47 + (1 + conditions_width k (drop 48 b)) ≡ p = omega arith in
-          rw (h, f, s, le-leb 48 p (omega arith))
-      go false f =
-          let q : p ≡ 0 = e ∙ ap (λ (t : Bool). cond t (48 + conditions_width k (drop 48 b)) 0) f in
-          rw (h, f, q)

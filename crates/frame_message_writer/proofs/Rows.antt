@@ -1,17 +1,17 @@
--- The rows of a message: the bytes of items and of account ids, how many they are, and when they are in range. Assumes nothing.
+-- The rows of a message: the bytes of items and of account ids. Assumes nothing.
 use mathlib.Core.Path.{◌≡◌, refl, sym, ap, ap₂, ◌∙◌}
-use mathlib.Core.List.{List, [], ◌∷◌, ◌++◌, map, append_assoc, append-nil}
-use Prim.Native.Nat.{ℕ, zero, suc, ◌+◌, ◌*◌, ◌<◌, ◌≤◌}
+use mathlib.Core.List.{List, [], ◌++◌, map, append_assoc, append-nil}
+use Prim.Native.Nat.{ℕ, zero, suc, ◌+◌, ◌*◌}
 use native.Mathlib.Omega.{arith}
-use lib.ListN.{length, get_or, length-append}
+use lib.ListN.{get_or}
 use lib.IntN.{ℤ, pos}
-use Rattle.octets.specs.Octets.{big_endian, money, part, write}
-use Rattle.octets.proofs.Numbers.{length_big_endian, length_money}
-use Rattle.octets.proofs.Places.{part_length, part_join, write_then}
+use Rattle.octets.specs.Octets.{big_endian, money, part}
+use Rattle.octets.proofs.Places.{part_join}
 use Rattle.frame.specs.Field.{plain_bytes, row_bytes, rows_bytes}
 use Rattle.frame.specs.Frame.{item_row, id_row, item_values, id_values}
 use Rattle.command.specs.View.{items_from, ids_from}
-use Rattle.frame_code_writer.proofs.Fields.{behind, lastly, byte_one}
+use Rattle.octet_writer.specs.Written.{Written}
+use Rattle.octet_writer.proofs.Laws.{written_same, written_then}
 
 -- ---- items
 
@@ -24,17 +24,6 @@ module _ (a t : List ℕ) (v : List ℤ) where
   one : ℕ → List ℕ
   one k = part (k * 10) 10 a ++ (big_endian 1 (get_or t k 0) ++ (money (get_or v k (pos 0)) ++ []))
 
-  one_length : (k : ℕ) → k * 10 + 10 ≤ length a → length (one k) ≡ 19
-  unfolding one
-  one_length k h =
-      simp (length-append, length_big_endian, length_money, part_length (k * 10) 10 a h)
-
-  pub item_bytes_length : (i n : ℕ) → (i + n) * 10 ≤ length a → length (item_bytes i n a t v) ≡ n * 19
-  unfolding items_from rows_bytes row_bytes plain_bytes item_values one
-  item_bytes_length i zero h = refl
-  item_bytes_length i (suc n) h =
-      omega (arith, length-append (one i) (item_bytes (suc i) n a t v), one_length i (omega arith), item_bytes_length (suc i) n (omega arith))
-
   item_behind : (i n : ℕ) → item_bytes i (n + 1) a t v ≡ item_bytes i n a t v ++ one (i + n)
   unfolding items_from rows_bytes row_bytes plain_bytes item_values one
   item_behind i zero = let e : i + 0 ≡ i = omega arith in rw e (append-nil (one i))
@@ -43,21 +32,14 @@ module _ (a t : List ℕ) (v : List ℤ) where
       let f : i + suc n ≡ suc i + n = omega arith in
       rw (e, f) (ap (λ (l : List ℕ). one i ++ l) (item_behind (suc i) n) ∙ sym (append_assoc (one i) (item_bytes (suc i) n a t v) (one (suc i + n))))
 
-  -- one more item, field by field
-  pub item_written : (f m x y g : List ℕ) (i : ℕ) → m ≡ write f 48 (item_bytes 0 i a t v) → x ≡ write m (48 + i * 19) (part (i * 10) 10 a)
-      → y ≡ write x (48 + i * 19 + 10) (get_or t i 0 ∷ []) → g ≡ write y (48 + i * 19 + 11) (money (get_or v i (pos 0))) → i * 10 + 10 ≤ length a → get_or t i 0 < 256
-      → g ≡ write f 48 (item_bytes 0 (i + 1) a t v)
+  -- one more item
+  pub item_written : {f m g : List ℕ} {p at end : ℕ} (i : ℕ) → Written f p (item_bytes 0 i a t v) m at
+      → Written m at (part (i * 10) 10 a ++ (big_endian 1 (get_or t i 0) ++ (money (get_or v i (pos 0)) ++ []))) g end
+      → Written f p (item_bytes 0 (i + 1) a t v) g end
   unfolding one
-  item_written f m x y g i p q r s h k =
-      let e : 48 + i * 19 + 10 + 1 ≡ 48 + i * 19 + 11 = omega arith in
+  item_written i w x =
       let z : 0 + i ≡ i = omega arith in
-      let w = behind m x g (48 + i * 19) 10 _ _ q (part_length (i * 10) 10 a h)
-      (behind x y g (48 + i * 19 + 10) 1 _ _ (r ∙ ap (write x (48 + i * 19 + 10)) (byte_one (get_or t i 0) k)) (length_big_endian 1 (get_or t i 0))
-      (lastly y g (48 + i * 19 + 11) _ s ∙ ap (λ (j : ℕ). write y j (money (get_or v i (pos 0)) ++ [])) (sym e))) in
-      w
-      ∙ ap (λ (l : List ℕ). write l (48 + i * 19) (one i)) p
-      ∙ write_then f 48 (item_bytes 0 i a t v) (one i) (48 + i * 19) (omega (arith, item_bytes_length 0 i (omega arith)))
-      ∙ ap (write f 48) (ap (λ (j : ℕ). item_bytes 0 i a t v ++ one j) (sym z) ∙ sym (item_behind 0 i))
+      written_same (ap (λ (j : ℕ). item_bytes 0 i a t v ++ one j) (sym z) ∙ sym (item_behind 0 i)) (written_then w x)
 
 -- ---- account ids
 

@@ -6,17 +6,18 @@ use Prim.Native.Nat.{ℕ, zero, suc, ◌+◌, ◌-◌, ◌*◌, ◌/◌, ◌%◌
 use native.Mathlib.Omega.{arith}
 use native.Mathlib.Nat.{zero-add}
 use native.Mathlib.Numerals.{add-one}
-use borrow.Author.Tests.{le-leb, lt-leb, leb-true, leb-false, eq-eqb, ne_eqb}
-use lib.ListN.{length, get_or, take, drop, set, length-append, length-take, drop_of_length-le}
+use borrow.Author.Tests.{le-leb, lt-leb, leb-true, leb-false, eq-eqb}
+use lib.ListN.{length, get_or, take, drop, set, length-take, drop_of_length-le}
 use lib.Seq.{drop-cons, paste-suc, take_all, take_at}
 use lib.Dec.{leb, eqb}
+use Rattle.std.specs.Prelude.{Option, Some, None, MatchOption}
 use Rattle.octets.proofs.Numbers.{both}
 use Rattle.rules.specs.Message.{is_digit}
 use Rattle.frame.specs.Hex.{nibble, is_letter, is_hex, all_hex, unhex}
 use Rattle.frame.specs.Frame.{is_frame, line_frame, given, read_frame}
 use Rattle.frame.proofs.Layouts.{frame_length}
 use Rattle.frame.specs.Filled.{Filled}
-use Rattle.frame_reader.specs.Unpacked.{DigitValues, is_packed, unpacked}
+use Rattle.frame_reader.specs.Unpacked.{DigitValues, is_packed, unpacked, FrameAt}
 
 -- ---- tests
 
@@ -112,9 +113,6 @@ unhex_end l d n i h e =
     let f : length (unhex l) ≤ i = omega (arith, unhex_length l) in
     rw (take_all i (unhex l) f, e)
 
-pub taken : (line last d : List ℕ) → last ≡ unhex line ++ drop (length line / 2) d → take (length line / 2) last ≡ unhex line
-taken line last d e = rw e (take_at (unhex line) (drop (length line / 2) d) (length line / 2) (unhex_length line))
-
 -- ---- the frame that a line is
 
 module _ (line : List ℕ) where
@@ -146,17 +144,9 @@ no_bytes true none = refl
 no_bytes false none = refl
 
 module _ (line : List ℕ) where
-  pub unread_odd : (length line % 2 ≡ 0 → ⊥) → unpacked line ≡ []
-  unfolding unpacked is_packed
-  unread_odd h = ap (λ (t : Bool). cond ((t && leb (length line / 2) 352) && all_hex line) (unhex line) []) (ne_eqb (length line % 2) 0 h)
-
-  pub unread_long : 352 < length line / 2 → unpacked line ≡ []
-  unfolding unpacked is_packed
-  unread_long h = rw (lt-leb (length line / 2) 352 h, both_false) refl
-
-  pub unread_other : all_hex line ≡ false → unpacked line ≡ []
-  unfolding unpacked is_packed
-  unread_other e = rw (e, both_false) refl
+  pub unread : is_packed line ≡ false → (entry : List ℕ) → Filled (unpacked line) entry entry 0
+  unfolding unpacked
+  unread e entry = rw e (record { length_is = refl; bytes_are = refl })
 
   pub read_digits : length line % 2 ≡ 0 → length line / 2 ≤ 352 → all_hex line ≡ true → (entry exit : List ℕ) → exit ≡ unhex line ++ drop (length line / 2) entry
       → Filled (unpacked line) entry exit (length line / 2)
@@ -178,34 +168,23 @@ module _ (line : List ℕ) where
       go true false false h = no_bytes (is_frame []) []
       go false b c h = no_bytes (is_frame []) []
 
--- the frame that a line is stands from byte 0 on and has n bytes
-pub record FrameAt (line bytes : List ℕ) (n : ℕ) : Type 0 where
-  pub length_is : n ≡ length (line_frame line)
-  pub frame_is : take n bytes ≡ line_frame line
-
-pub frame_within : (line bytes : List ℕ) (n : ℕ) → FrameAt line bytes n → n ≤ length bytes
-frame_within line bytes n f = omega (arith, f.length_is, simp length-take at (ap length f.frame_is))
-
 -- unpacked into a buffer
 module _ (line entry exit : List ℕ) (m : ℕ) (f : Filled (unpacked line) entry exit m) where
-  pub bytes_within : m ≤ length exit
-  bytes_within = omega (arith, f.length_is, ap length f.bytes_are, length-append (unpacked line) (drop (length (unpacked line)) entry))
-
   front : take m exit ≡ unpacked line
   front = rw f.bytes_are (take_at (unpacked line) (drop (length (unpacked line)) entry) m (sym f.length_is))
 
-  pub frame_at : (n : ℕ) → n ≡ length (cond (is_frame (take m exit)) (take m exit) []) → FrameAt line exit n
-  frame_at n e = record { length_is = long; frame_is = go (is_frame (unpacked line)) refl }
+  pub frame_at : (r : Option ℕ) → r ≡ cond (is_frame (take m exit)) (Some (length (take m exit))) None → MatchOption r (line_frame line ≡ []) (λ n. (is_frame (line_frame line) ≡ true) × FrameAt line exit n)
+  frame_at r e = go (is_frame (unpacked line)) refl
     where
-      long : n ≡ length (line_frame line)
-      long = e ∙ ap (λ (b : List ℕ). length (cond (is_frame b) b [])) front ∙ ap length (line_frame_lem line)
-
-      go : (b : Bool) → is_frame (unpacked line) ≡ b → take n exit ≡ line_frame line
+      go : (b : Bool) → is_frame (unpacked line) ≡ b → MatchOption r (line_frame line ≡ []) (λ n. (is_frame (line_frame line) ≡ true) × FrameAt line exit n)
       go true t =
           let all : line_frame line ≡ unpacked line = sym (line_frame_lem line) ∙ ap (λ (b : Bool). cond b (unpacked line) []) t in
-          let same : n ≡ m = long ∙ ap length all ∙ sym f.length_is in
-          ap (λ (k : ℕ). take k exit) same ∙ front ∙ sym all
-      go false t =
-          let none : line_frame line ≡ [] = sym (line_frame_lem line) ∙ ap (λ (b : Bool). cond b (unpacked line) []) t in
-          let zero : n ≡ 0 = long ∙ ap length none in
-          ap (λ (k : ℕ). take k exit) zero ∙ sym none
+          rw (e, front, t) (rw all t, record { length_is = ap length (sym all); frame_is = ap (λ (k : ℕ). take k exit) (sym f.length_is) ∙ front ∙ sym all })
+      go false t = rw (e, front, t) (sym (line_frame_lem line) ∙ ap (λ (b : Bool). cond b (unpacked line) []) t)
+
+-- what is no bytes is no frame
+pub unframed : (line : List ℕ) → is_packed line ≡ false → line_frame line ≡ []
+unframed line e = sym (line_frame_lem line) ∙ let n : unpacked line ≡ [] = unfold unpacked in rw e in rw n (no_bytes (is_frame []) [])
+
+pub frame_within : (line bytes : List ℕ) (n : ℕ) → FrameAt line bytes n → n ≤ length bytes
+frame_within line bytes n f = omega (arith, f.length_is, simp length-take at (ap length f.frame_is))

@@ -1,11 +1,11 @@
 // Frames read from lines of hexadecimal digits.
 #![tactic(auto)]
 
-ghost use Rattle.std.specs.Prelude.{◌≡◌, true, ◌++◌, ◌*◌, ◌≤◌, ◌<◌, length, drop};
+ghost use Rattle.std.specs.Prelude.{◌≡◌, true, ◌++◌, ◌*◌, ◌≤◌, ◌<◌, length, drop, [], MatchOption, is_some, unwrap_or};
 ghost use Rattle.frame.specs.Hex.{is_hex, all_hex, nibble, unhex};
-ghost use Rattle.frame.specs.Frame.{read_frame};
+ghost use Rattle.frame.specs.Frame.{is_frame, line_frame, read_frame};
 ghost use Rattle.frame.specs.Filled.{Filled};
-ghost use Rattle.frame_reader.specs.Unpacked.{DigitValues, unpacked};
+ghost use Rattle.frame_reader.specs.Unpacked.{DigitValues, is_packed, unpacked, FrameAt};
 
 use digits::is_digit;
 use frame::frame_length;
@@ -14,7 +14,7 @@ use frame::frame_length;
 fn is_hex(d: u8) -> bool
     ensures { result ≡ is_hex d }
 {
-    is_digit(d) | ((97 <= d) & (d <= 102))
+    is_digit(d) | (97..=102).contains(&d)
 }
 
 // It looks at every digit, whatever came before: so the compiler takes many at a time.
@@ -22,10 +22,8 @@ fn all_hex(line: &[u8]) -> bool
     ensures { result ≡ all_hex line.now }
 {
     let mut all = true;
-    let mut i = 0;
-    while i < line.len() {
-        all = all & is_hex(line[i]);
-        i += 1;
+    for d in line {
+        all &= is_hex(*d);
     }
     all
 }
@@ -35,10 +33,8 @@ pub fn digit_values() -> [u8; 128]
     ensures { DigitValues result }
 {
     let mut values = [0u8; 128];
-    let mut i: usize = 0;
-    while i < 128 {
+    for i in 0..128 {
         values[i] = (i % 16 + i / 64 * 9) as u8;
-        i += 1;
     }
     values
 }
@@ -51,49 +47,39 @@ fn digit_value(values: &[u8], d: u8) -> u8
     values[d as usize]
 }
 
-// The n bytes of a line of 2 * n hexadecimal digits.
+// The n bytes of a line of 2 * n hexadecimal digits. They are written by their places: a proof knows nothing of elements written through `iter_mut`.
 fn decode(line: &[u8], n: usize, buf: &mut [u8], values: &[u8])
     requires { (length line.now ≡ 2 * n) × (n ≤ length buf.old) × (all_hex line.now ≡ true) × (DigitValues values.now) }
     ensures { buf.new ≡ unhex line.now ++ drop n buf.old }
 {
-    let mut i = 0;
-    while i < n {
+    for i in 0..n {
         buf[i] = digit_value(values, line[2 * i]) * 16 + digit_value(values, line[2 * i + 1]);
-        i += 1;
     }
 }
 
-// The bytes of src from byte 0 of dst on, and how many they are.
-fn copy(src: &[u8], dst: &mut [u8]) -> usize
-    requires { length src.now ≤ length dst.old }
-    ensures { Filled src.now dst.old dst.new result }
-{
-    let mut i = 0;
-    while i < src.len() {
-        dst[i] = src[i];
-        i += 1;
-    }
-    i
-}
-
-// Writes the bytes that a line's digits are from byte 0 on and returns how many. Where the line is no even number of hexadecimal digits, or has over 704 of
-// them, it returns 0 and leaves the buffer as it was.
-pub fn unpack(line: &[u8], buf: &mut [u8], values: &[u8]) -> usize
+// Writes the bytes that a line's digits are from byte 0 on and gives how many. Where the line is no even number of hexadecimal digits, or has over 704 of
+// them, it gives none and leaves the buffer as it was.
+fn unpack(line: &[u8], buf: &mut [u8], values: &[u8]) -> Option<usize>
     requires { (352 ≤ length buf.old) × (DigitValues values.now) }
-    ensures { Filled (unpacked line.now) buf.old buf.new result }
+    ensures { (is_some result ≡ is_packed line.now) × (Filled (unpacked line.now) buf.old buf.new (unwrap_or result 0)) }
 {
-    if line.len() % 2 != 0 {
-        return 0;
-    }
     let n = line.len() / 2;
-    if 352 < n {
-        return 0;
-    }
-    if !all_hex(line) {
-        return 0;
+    if line.len() % 2 != 0 || 352 < n || !all_hex(line) {
+        return None;
     }
     decode(line, n, buf, values);
-    n
+    Some(n)
+}
+
+// The length of the frame that a line is, which then stands in the buffer from byte 0 on; none where the line is no frame. The buffer gets the bytes that the
+// line's digits are, whether they are a frame or not.
+pub fn unpack_frame(line: &[u8], buf: &mut [u8], values: &[u8]) -> Option<usize>
+    requires { (352 ≤ length buf.old) × (DigitValues values.now) }
+    ensures bytes { buf.new ≡ unpacked line.now ++ drop (length (unpacked line.now)) buf.old }
+    ensures frame { MatchOption result (line_frame line.now ≡ []) (λ n. (is_frame (line_frame line.now) ≡ true) × FrameAt line.now buf.new n) }
+{
+    let n = unpack(line, buf, values)?;
+    frame_length(&buf[..n])
 }
 
 // Writes the frame that a line is from byte 0 on and returns its length. Where the line is no frame, or the buffer has under 352 bytes, it returns 0 and
@@ -104,9 +90,10 @@ pub fn nomiluvar_read_frame(line: &[u8], frame: &mut [u8]) -> usize
     if frame.len() < 352 {
         return 0;
     }
-    let values = digit_values();
     let mut buf = [0u8; 352];
-    let m = unpack(line, &mut buf, &values);
-    let n = frame_length(&buf[..m]);
-    copy(&buf[..n], frame)
+    let Some(n) = unpack_frame(line, &mut buf, &digit_values()) else {
+        return 0;
+    };
+    frame[..n].copy_from_slice(&buf[..n]);
+    n
 }

@@ -1,141 +1,137 @@
 // Frames written from commands.
 #![tactic(auto)]
 
-ghost use Rattle.std.specs.Prelude.{[], ◌∷◌, ◌≤◌, length};
+ghost use Rattle.std.specs.Prelude.{cond, [], ◌∷◌, ◌++◌, length};
+ghost use Rattle.octets.specs.Octets.{money};
 ghost use Rattle.rules.specs.Command as Rule;
+ghost use Rattle.rules.specs.Command.{is_code};
+ghost use Rattle.rules.specs.Message.{digits};
 ghost use Rattle.frame.specs.Frame.{command_frame, write_frame};
 ghost use Rattle.frame.specs.Filled.{Filled};
 ghost use Rattle.command.specs.View.{ordered};
+ghost use Rattle.octet_writer.specs.Written.{HasRoom, MovedAtMost, Wrote};
 
 use command::{Command, Order};
-use frame_code_writer::put_code;
+use frame_code_writer::code_digits;
 use frame_message_writer::{write_change, write_deletion, write_query, write_search};
-use octet_writer::{put_byte, put_i64, put_u32};
+use octet_writer::Writer;
 use rules::{is_code, is_letters, is_method};
 
-// 01: code. Like the others below, it writes the frame, or refuses a command that is out of range.
-fn write_bank(code: u32, frame: &mut [u8]) -> usize
-    requires { 352 ≤ length frame.old }
-    ensures { Filled (command_frame (Rule.Bank code ∷ [])) frame.old frame.new result }
+// 01 and 13: code. Like the others below, it writes the frame, or nothing of a command that is out of range.
+fn write_code(w: &mut Writer, kind: u8, code: u32)
+    requires { HasRoom 352 w.old }
+    ensures moved { MovedAtMost 352 w.old w.new }
+    ensures wrote { Wrote (cond (is_code code) (kind ∷ digits 6 code) []) w.old w.new }
 {
-    if !is_code(code) {
-        return 0;
+    if is_code(code) {
+        w.put(kind);
+        w.put_all(&code_digits(code));
     }
-    put_byte(frame, 0, 1);
-    put_code(frame, 1, code);
-    7
+}
+
+// 03 and 04: code, amount.
+fn write_amount(w: &mut Writer, kind: u8, code: u32, amount: i64)
+    requires { HasRoom 352 w.old }
+    ensures moved { MovedAtMost 352 w.old w.new }
+    ensures wrote { Wrote (cond (is_code code) (kind ∷ (digits 6 code ++ money amount)) []) w.old w.new }
+{
+    if is_code(code) {
+        w.put(kind);
+        w.put_all(&code_digits(code));
+        w.put(amount);
+    }
 }
 
 // 02: code, owner, LTK method, LPO method.
-fn write_branch(code: u32, owner: u32, ltk: u8, lpo: u8, frame: &mut [u8]) -> usize
-    requires { 352 ≤ length frame.old }
-    ensures { Filled (command_frame (Rule.Branch code owner ltk lpo ∷ [])) frame.old frame.new result }
+fn write_branch(w: &mut Writer, code: u32, owner: u32, ltk: u8, lpo: u8)
+    requires { HasRoom 352 w.old }
+    ensures moved { MovedAtMost 352 w.old w.new }
+    ensures wrote { Wrote (command_frame (Rule.Branch code owner ltk lpo ∷ [])) w.old w.new }
 {
-    if !(is_code(code) & is_code(owner) & is_method(ltk) & is_method(lpo)) {
-        return 0;
+    if is_code(code) & is_code(owner) & is_method(ltk) & is_method(lpo) {
+        w.put(2u8);
+        w.put_all(&code_digits(code));
+        w.put_all(&code_digits(owner));
+        w.put(ltk);
+        w.put(lpo);
     }
-    put_byte(frame, 0, 2);
-    put_code(frame, 1, code);
-    put_code(frame, 7, owner);
-    put_byte(frame, 13, ltk);
-    put_byte(frame, 14, lpo);
-    15
-}
-
-// 03: code, amount.
-fn write_funding(code: u32, amount: i64, frame: &mut [u8]) -> usize
-    requires { 352 ≤ length frame.old }
-    ensures { Filled (command_frame (Rule.Funding code amount ∷ [])) frame.old frame.new result }
-{
-    if !is_code(code) {
-        return 0;
-    }
-    put_byte(frame, 0, 3);
-    put_code(frame, 1, code);
-    put_i64(frame, 7, amount);
-    15
-}
-
-// 04: code, amount.
-fn write_withdrawal(code: u32, amount: i64, frame: &mut [u8]) -> usize
-    requires { 352 ≤ length frame.old }
-    ensures { Filled (command_frame (Rule.Withdrawal code amount ∷ [])) frame.old frame.new result }
-{
-    if !is_code(code) {
-        return 0;
-    }
-    put_byte(frame, 0, 4);
-    put_code(frame, 1, code);
-    put_i64(frame, 7, amount);
-    15
 }
 
 // 05: code, LTK, LPO.
-fn write_bank_limits(code: u32, ltk: i64, lpo: i64, frame: &mut [u8]) -> usize
-    requires { 352 ≤ length frame.old }
-    ensures { Filled (command_frame (Rule.BankLimits code ltk lpo ∷ [])) frame.old frame.new result }
+fn write_bank_limits(w: &mut Writer, code: u32, ltk: i64, lpo: i64)
+    requires { HasRoom 352 w.old }
+    ensures moved { MovedAtMost 352 w.old w.new }
+    ensures wrote { Wrote (command_frame (Rule.BankLimits code ltk lpo ∷ [])) w.old w.new }
 {
-    if !is_code(code) {
-        return 0;
+    if is_code(code) {
+        w.put(5u8);
+        w.put_all(&code_digits(code));
+        w.put(ltk);
+        w.put(lpo);
     }
-    put_byte(frame, 0, 5);
-    put_code(frame, 1, code);
-    put_i64(frame, 7, ltk);
-    put_i64(frame, 15, lpo);
-    23
 }
 
 // 06: 0 credit or 1 debit, sender, receiver, amount.
-fn write_payment(way: u8, sender: u32, receiver: u32, amount: i64, frame: &mut [u8]) -> usize
-    requires { 352 ≤ length frame.old }
-    ensures { Filled (command_frame (Rule.Payment way sender receiver amount ∷ [])) frame.old frame.new result }
+fn write_payment(w: &mut Writer, way: u8, sender: u32, receiver: u32, amount: i64)
+    requires { HasRoom 352 w.old }
+    ensures moved { MovedAtMost 352 w.old w.new }
+    ensures wrote { Wrote (command_frame (Rule.Payment way sender receiver amount ∷ [])) w.old w.new }
 {
-    if !((way <= 1) & is_code(sender) & is_code(receiver)) {
-        return 0;
+    if (way <= 1) & is_code(sender) & is_code(receiver) {
+        w.put(6u8);
+        w.put(way);
+        w.put_all(&code_digits(sender));
+        w.put_all(&code_digits(receiver));
+        w.put(amount);
     }
-    put_byte(frame, 0, 6);
-    put_byte(frame, 1, way);
-    put_code(frame, 2, sender);
-    put_code(frame, 8, receiver);
-    put_i64(frame, 14, amount);
-    22
 }
 
 // 0a: day. Every day is in range.
-fn write_opening(day: u32, frame: &mut [u8]) -> usize
-    requires { 352 ≤ length frame.old }
-    ensures { Filled (command_frame (Rule.Opening day ∷ [])) frame.old frame.new result }
+fn write_opening(w: &mut Writer, day: u32)
+    requires { HasRoom 352 w.old }
+    ensures moved { MovedAtMost 352 w.old w.new }
+    ensures wrote { Wrote (command_frame (Rule.Opening day ∷ [])) w.old w.new }
 {
-    put_byte(frame, 0, 10);
-    put_u32(frame, 1, day);
-    5
+    w.put(10u8);
+    w.put(day);
 }
 
 // 0c: code, letters.
-fn write_letters(code: u32, letters: u8, frame: &mut [u8]) -> usize
-    requires { 352 ≤ length frame.old }
-    ensures { Filled (command_frame (Rule.Letters code letters ∷ [])) frame.old frame.new result }
+fn write_letters(w: &mut Writer, code: u32, letters: u8)
+    requires { HasRoom 352 w.old }
+    ensures moved { MovedAtMost 352 w.old w.new }
+    ensures wrote { Wrote (command_frame (Rule.Letters code letters ∷ [])) w.old w.new }
 {
-    if !(is_code(code) & is_letters(letters)) {
-        return 0;
+    if is_code(code) & is_letters(letters) {
+        w.put(12u8);
+        w.put_all(&code_digits(code));
+        w.put(letters);
     }
-    put_byte(frame, 0, 12);
-    put_code(frame, 1, code);
-    put_byte(frame, 7, letters);
-    8
 }
 
-// 13: code.
-fn write_mark(code: u32, frame: &mut [u8]) -> usize
-    requires { 352 ≤ length frame.old }
-    ensures { Filled (command_frame (Rule.Mark code ∷ [])) frame.old frame.new result }
+fn write_command(w: &mut Writer, o: Order)
+    requires { HasRoom 352 w.old }
+    ensures moved { MovedAtMost 352 w.old w.new }
+    ensures wrote { Wrote (command_frame (ordered o)) w.old w.new }
 {
-    if !is_code(code) {
-        return 0;
+    match o.command {
+        Command::Nothing => (),
+        Command::Bank(code) => write_code(w, 1, code),
+        Command::Branch(code, owner, ltk, lpo) => write_branch(w, code, owner, ltk, lpo),
+        Command::Funding(code, amount) => write_amount(w, 3, code, amount),
+        Command::Withdrawal(code, amount) => write_amount(w, 4, code, amount),
+        Command::BankLimits(code, ltk, lpo) => write_bank_limits(w, code, ltk, lpo),
+        Command::Payment(way, sender, receiver, amount) => {
+            write_payment(w, way, sender, receiver, amount)
+        }
+        Command::Change(h, n) => write_change(w, h, n, o.id, o.accounts, o.types, o.values),
+        Command::Deletion(h, limit) => write_deletion(w, h, limit, o.id, o.accounts),
+        Command::Query(h, n) => write_query(w, h, n, o.id, o.accounts),
+        Command::Opening(day) => write_opening(w, day),
+        Command::Search(h, n) => write_search(w, h, n, o.id, o.accounts),
+        Command::Letters(code, letters) => write_letters(w, code, letters),
+        Command::Mark(code) => write_code(w, 19, code),
     }
-    put_byte(frame, 0, 19);
-    put_code(frame, 1, code);
-    7
 }
 
 // Writes the frame of an order's command from byte 0 on and returns its length. Where the command is none or out of range, or the buffer has under 352
@@ -146,27 +142,7 @@ pub fn write_frame(o: Order, frame: &mut [u8]) -> usize
     if frame.len() < 352 {
         return 0;
     }
-    let command = o.command;
-    let id = o.id;
-    let accounts = o.accounts;
-    let types = o.types;
-    let values = o.values;
-    match command {
-        Command::Nothing => 0,
-        Command::Bank(code) => write_bank(code, frame),
-        Command::Branch(code, owner, ltk, lpo) => write_branch(code, owner, ltk, lpo, frame),
-        Command::Funding(code, amount) => write_funding(code, amount, frame),
-        Command::Withdrawal(code, amount) => write_withdrawal(code, amount, frame),
-        Command::BankLimits(code, ltk, lpo) => write_bank_limits(code, ltk, lpo, frame),
-        Command::Payment(way, sender, receiver, amount) => {
-            write_payment(way, sender, receiver, amount, frame)
-        }
-        Command::Change(h, n) => write_change(h, n, id, accounts, types, values, frame),
-        Command::Deletion(h, limit) => write_deletion(h, limit, id, accounts, frame),
-        Command::Query(h, n) => write_query(h, n, id, accounts, frame),
-        Command::Opening(day) => write_opening(day, frame),
-        Command::Search(h, n) => write_search(h, n, id, accounts, frame),
-        Command::Letters(code, letters) => write_letters(code, letters, frame),
-        Command::Mark(code) => write_mark(code, frame),
-    }
+    let mut w = Writer::new(frame);
+    write_command(&mut w, o);
+    w.len()
 }

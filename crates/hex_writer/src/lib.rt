@@ -1,10 +1,11 @@
 // Bytes written as lowercase hexadecimal digits, two to a byte.
 #![tactic(auto)]
 
-ghost use Rattle.std.specs.Prelude.{◌≡◌, ◌+◌, ◌*◌, ◌<◌, ◌≤◌, length, take};
+ghost use Rattle.std.specs.Prelude.{◌≡◌, ◌+◌, ◌*◌, ◌<◌, ◌≤◌, length};
 ghost use Rattle.octets.specs.Octets.{write};
 ghost use Rattle.frame.specs.Hex.{hex_digit, hex};
 
+#[tactic(auto, unfolding(frame::specs::Hex::hex_digit))]
 fn hex_digit(n: u8) -> u8
     requires { n < 16 }
     ensures { result ≡ hex_digit n }
@@ -12,17 +13,14 @@ fn hex_digit(n: u8) -> u8
     if n < 10 { 48 + n } else { 87 + n }
 }
 
-// The first n bytes of src, as digits from the place `at` on.
-pub fn put_hex(out: &mut [u8], at: usize, src: &[u8], n: usize)
-    requires { (at + 2 * n ≤ length out.old) × (n ≤ length src.now) }
-    ensures { out.new ≡ write out.old at (hex (take n src.now)) }
+// The bytes of src, as digits from the place `at` on.
+pub fn put_hex(out: &mut [u8], at: usize, src: &[u8])
+    requires { at + 2 * length src.now ≤ length out.old }
+    ensures { out.new ≡ write out.old at (hex src.now) }
 {
-    let mut i: usize = 0;
-    while i < n {
-        let b = src[i];
+    for (i, b) in src.iter().enumerate() {
         let p = at + 2 * i;
         out[p] = hex_digit(b / 16);
         out[p + 1] = hex_digit(b % 16);
-        i += 1;
     }
 }

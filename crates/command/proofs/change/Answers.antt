@@ -33,5 +33,5 @@ values_at-requires c =
 pub returns : goal.returns
 unfolding ordered
 returns c =
-    change_held c.args.b.now c.requires.0 _ _ _ _ _ c.header_at.ensures c.id_at.ensures _ c.requires.1 c.size-n.ensures
+    change_held c.args.b.now c.requires.0 _ _ _ _ _ c.header_at.ensures c.id_at.ensures _ c.requires.1 c.from-n.ensures
     (record { account = c.accounts_at.ensures; type = c.types_at.ensures; value = c.values_at.ensures })

@@ -1,8 +1,12 @@
-use mathlib.Core.Path.{refl}
+use mathlib.Core.Path.{◌∙◌}
 use native.Mathlib.Omega.{arith}
-use Rattle.command.proofs.Searches.{copied}
+use lib.ListN.{length-drop, length-take}
+use lib.Seq.{take_at, take_all}
+use Rattle.octets.specs.Octets.{part}
 use Rattle.command.proofs.conditions_of.Goals as goal
 
 pub returns : goal.returns
+unfolding part
 returns c =
-    copied c.args.b.now _ _ _ c.copy.ensures refl c.requires.0 (omega (arith, c.requires.1))
+    let e = c.copy_from_slice.ensures in
+    take_at _ _ _ (e.len ∙ simp (length-take, length-drop) (omega arith)) ∙ e.after ∙ take_all _ _ (simp length-drop (omega arith))

@@ -23,5 +23,5 @@ accounts_at-requires c =
 pub returns : goal.returns
 unfolding ordered
 returns c =
-    query_held c.args.b.now c.requires.0 _ _ _ _ _ c.header_at.ensures c.id_at.ensures _ c.requires.1 c.size-n.ensures
+    query_held c.args.b.now c.requires.0 _ _ _ _ _ c.header_at.ensures c.id_at.ensures _ c.requires.1 c.from-n.ensures
     c.accounts_at.ensures

@@ -23,5 +23,5 @@ conditions_of-requires c =
 pub returns : goal.returns
 unfolding ordered
 returns c =
-    search_held c.args.b.now c.requires.0 c.requires.1 _ _ _ _ _ c.header_at.ensures c.id_at.ensures _ c.size-n.ensures
+    search_held c.args.b.now c.requires.0 c.requires.1 _ _ _ _ _ c.header_at.ensures c.id_at.ensures _ c.from-n.ensures
     c.conditions_of.ensures

@@ -1,21 +1,22 @@
-use mathlib.Core.Path.{◌≡◌, refl, sym, ◌∙◌}
+use mathlib.Core.Path.{◌≡◌, sym, ap, ◌∙◌}
 use mathlib.Core.Bool.{◌&&◌}
-use mathlib.Core.List.{map}
-use Prim.Native.Nat.{ℕ, ◌+◌, ◌*◌}
+use mathlib.Core.List.{map, [], ◌∷◌}
+use Prim.Native.Nat.{ℕ}
 use native.Mathlib.Omega.{arith}
 use lib.ListN.{length, length-map, get_or}
 use lib.Dec.{leb}
 use mir.Syntax.{w32, w8, w64}
 use mir.Val.{Fits, SFits}
-use Rattle.frame.specs.Field.{size, row_size, width, plain_bytes, bytes_of, all_bytes}
+use Rattle.frame.specs.Field.{plain_bytes, bytes_of, all_bytes}
 use Rattle.frame.specs.Frame.{kind_byte, fields_of, kind_of, values_of, frame_of, item_values}
 use Rattle.frame.proofs.Rows.{is_bytes_lem}
 use Rattle.command.specs.View.{to_header, items_from}
 use lib.IntN.{pos}
 use Rattle.octets.proofs.Numbers.{fits_money}
 use Rattle.rules.specs.Command.{Change, is_code, is_count, well_formed}
-use Rattle.frame_code_writer.proofs.Fields.{behind, lastly, byte_same, total, refused, written, message}
-use Rattle.command.proofs.Forms.{bytes_fit, amount_fits, change_formed, count_most, items_length, items_fit}
+use Rattle.frame_code_writer.proofs.Fields.{lastly, refused, written, message}
+use Rattle.octet_writer.proofs.Laws.{written_same, written_then}
+use Rattle.command.proofs.Forms.{bytes_fit, amount_fits, change_formed, items_length, items_fit}
 use borrow.Author.Rules.{rules}
 use Rattle.frame_message_writer.proofs.write_change.Goals.{Start}
 use Rattle.frame_message_writer.proofs.write_change.Goals as goal
@@ -35,36 +36,17 @@ formed s =
     (λ k. (f k).fits) (λ k. fits_money (get_or s.args.values k (pos 0)) (g k)))
     (items_length s.args.accounts s.args.types s.args.values 0 s.args.n)
 
-pub returns-then-not-rows_fit : goal.returns-then-not-rows_fit
-returns-then-not-rows_fit c =
-    refused (Change (to_header c.args.h c.args.id) (items_from 0 c.args.n c.args.accounts c.args.types c.args.values)) c.args.frame.now
-    (formed (goal.at.returns-then-not-rows_fit c).Start ∙ sym c.rows_fit.ensures ∙ c.if-not-rows_fit.true)
+pub returns-then-not-rows_fit-clause-wrote : goal.returns-then-not-rows_fit-clause-wrote
+returns-then-not-rows_fit-clause-wrote c =
+    refused (Change (to_header c.args.h c.args.id) (items_from 0 c.args.n c.args.accounts c.args.types c.args.values))
+    (formed (goal.at.returns-then-not-rows_fit-clause-wrote c).Start ∙ sym c.rows_fit.ensures.fits ∙ c.if-not-rows_fit.true)
 
-pub overflow_cast-n : goal.overflow_cast-n
-overflow_cast-n c =
-    omega (arith, count_most c.args.h c.args.n (sym c.rows_fit.ensures ∙ c.if-not-rows_fit.false))
-
-pub put_items-requires : goal.put_items-requires
-put_items-requires c =
-    (count_most c.args.h c.args.n (sym c.rows_fit.ensures ∙ c.if-not-rows_fit.false), omega arith)
-
-pub overflow_mul-result : goal.overflow_mul-result
-overflow_mul-result c =
-    omega (arith, count_most c.args.h c.args.n (sym c.rows_fit.ensures ∙ c.if-not-rows_fit.false))
-
-pub overflow_add-result : goal.overflow_add-result
-overflow_add-result c =
-    omega (arith, count_most c.args.h c.args.n (sym c.rows_fit.ensures ∙ c.if-not-rows_fit.false))
-
-pub returns : goal.returns
-unfolding to_header frame_of kind_of kind_byte fields_of values_of all_bytes bytes_of plain_bytes total width size row_size
-returns c =
-    let e : length c.args.id ≡ 32 = search rules in
+pub returns-clause-wrote : goal.returns-clause-wrote
+unfolding to_header frame_of kind_of kind_byte fields_of values_of all_bytes bytes_of plain_bytes
+returns-clause-wrote c =
     let n : length (map item_values (items_from 0 c.args.n c.args.accounts c.args.types c.args.values)) ≡ c.args.n =
     length-map (items_from 0 c.args.n c.args.accounts c.args.types c.args.values) item_values ∙ items_length c.args.accounts c.args.types c.args.values 0 c.args.n in
-    written (Change (to_header c.args.h c.args.id) (items_from 0 c.args.n c.args.accounts c.args.types c.args.values)) c.args.frame.now _ (48 + c.args.n * 19)
-    (formed (goal.at.returns c).Start ∙ sym c.rows_fit.ensures ∙ c.if-not-rows_fit.false) c.requires
-    (message _ _ _ 7 _ _ _ c.args.id _ e c.put_header.ensures
-    (behind _ _ _ 47 1 _ _ (byte_same _ _ 47 _ _ (sym n) c.put_byte.ensures) refl
-    (lastly _ _ 48 _ c.put_items.ensures)))
-    (omega arith)
+    written (Change (to_header c.args.h c.args.id) (items_from 0 c.args.n c.args.accounts c.args.types c.args.values))
+    (formed (goal.at.returns-clause-wrote c).Start ∙ sym c.rows_fit.ensures.fits ∙ c.if-not-rows_fit.false)
+    (message 7 _ _ _ c.args.id _ c.put_header.ensures.wrote
+    (lastly (written_then (written_same (ap (λ (k : ℕ). k ∷ []) (sym n)) c.put.ensures.wrote) c.put_items.ensures.wrote)))

@@ -1,33 +1,24 @@
-use mathlib.Core.Path.{◌≡◌, refl, sym, ap, ◌∙◌}
+use mathlib.Core.Path.{sym, ap, ◌∙◌}
 use mathlib.Core.List.{List}
-use Prim.Native.Nat.{ℕ, ◌*◌, ◌+◌, zero-le}
+use Prim.Native.Nat.{ℕ, ◌*◌, ◌+◌}
 use native.Mathlib.Omega.{arith}
-use lib.ListN.{get_or, set, length-set}
+use lib.ListN.{set}
 use Rattle.frame.specs.Hex.{unhex}
 use Rattle.frame_reader.proofs.Reader.{copy_more, hex_at, unhex_at, unhex_end, unhex_length}
 use Rattle.frame_reader.proofs.decode.Goals as goal
 
-pub loop-i-init : goal.loop-i-init
-loop-i-init c = (zero-le, refl, refl)
-
 pub digit_value-requires : goal.digit_value-requires
-digit_value-requires c =
-    (c.requires.3, hex_at c.args.line.now _ c.requires.2 (omega arith))
+digit_value-requires c = (c.requires.3, hex_at c.args.line.now _ c.requires.2 (omega arith))
 
 pub digit_value-requires-in-loop-i : goal.digit_value-requires-in-loop-i
-digit_value-requires-in-loop-i c =
-    (c.requires.3, hex_at c.args.line.now _ c.requires.2 (omega arith))
+digit_value-requires-in-loop-i c = (c.requires.3, hex_at c.args.line.now _ c.requires.2 (omega arith))
 
 pub loop-i-preserved : goal.loop-i-preserved
 loop-i-preserved c =
-    let e : c.digit_value.result * 16 + c.digit_value-in-loop-i.result ≡ get_or (unhex c.args.line.now) c.loop-i.i 0 =
-    rw (c.digit_value.ensures.0, c.digit_value-in-loop-i.ensures.0) (sym (unhex_at c.args.line.now c.loop-i.i (omega arith))) in (
-      omega arith,
-      ap (λ (t : List ℕ). set t c.loop-i.i (c.digit_value.result * 16 + c.digit_value-in-loop-i.result)) c.loop-i.invariant.1
-          ∙ copy_more (unhex c.args.line.now) c.args.buf.now c.loop-i.i _ (omega (arith, unhex_length c.args.line.now)) (omega arith) e,
-      simp length-set (omega arith),
-    )
+    let v = c.digit_value.result * 16 + c.digit_value-in-loop-i.result in
+    ap (λ (t : List ℕ). set t c.loop-i.i v) c.loop-i.invariant
+    ∙ copy_more (unhex c.args.line.now) c.args.buf.now c.loop-i.i _ (omega (arith, unhex_length c.args.line.now)) (omega arith)
+    (rw (c.digit_value.ensures.0, c.digit_value-in-loop-i.ensures.0) (sym (unhex_at c.args.line.now c.loop-i.i (omega arith))))
 
 pub returns : goal.returns
-returns c =
-    c.loop-i.invariant.1 ∙ unhex_end c.args.line.now c.args.buf.now c.args.n c.loop-i.i c.requires.0 (omega arith)
+returns c = c.loop-i.invariant ∙ unhex_end c.args.line.now c.args.buf.now c.args.n c.loop-i.i c.requires.0 (omega arith)

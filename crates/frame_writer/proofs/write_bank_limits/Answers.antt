@@ -1,25 +1,24 @@
-use Rattle.rules.proofs.Digits.{length_digits}
-use Rattle.octets.proofs.Numbers.{fits_money, length_money}
-use Rattle.command.proofs.Forms.{limits_formed}
-use mathlib.Core.Path.{refl, sym, ◌∙◌}
+use mathlib.Core.Path.{sym, ◌∙◌}
+use mir.Facts.{to_z-of_z}
+use Rattle.octets.proofs.Numbers.{fits_money}
 use Rattle.rules.specs.Command.{BankLimits}
-use Rattle.frame.specs.Field.{size, width, plain_bytes, bytes_of, all_bytes}
+use Rattle.command.proofs.Forms.{limits_formed}
+use Rattle.frame.specs.Field.{plain_bytes, bytes_of, all_bytes}
 use Rattle.frame.specs.Frame.{kind_byte, fields_of, kind_of, values_of, frame_of}
-use Rattle.frame_code_writer.proofs.Fields.{amount_kept, behind, lastly, total, refused, written}
+use Rattle.octet_writer.proofs.Laws.{written_then}
+use Rattle.frame_code_writer.proofs.Fields.{lastly, refused, written}
 use Rattle.frame_writer.proofs.write_bank_limits.Goals as goal
 
-pub returns-then-not-is_code : goal.returns-then-not-is_code
-returns-then-not-is_code c =
-    refused (BankLimits c.args.code c.args.ltk c.args.lpo) c.args.frame.now
-    (limits_formed c.args.code c.args.ltk c.args.lpo (fits_money c.args.ltk c.ranges.ltk) (fits_money c.args.lpo c.ranges.lpo) ∙ sym c.is_code.ensures ∙ c.if-not-is_code.true)
+pub returns-then-is_code-clause-wrote : goal.returns-then-is_code-clause-wrote
+unfolding frame_of kind_of kind_byte fields_of values_of all_bytes bytes_of plain_bytes
+returns-then-is_code-clause-wrote c =
+    written (BankLimits c.args.code c.args.ltk c.args.lpo)
+    (limits_formed c.args.code c.args.ltk c.args.lpo (fits_money c.args.ltk c.ranges.ltk) (fits_money c.args.lpo c.ranges.lpo) ∙ sym c.is_code.ensures ∙ c.if-is_code.true)
+    (written_then c.put.ensures.wrote
+    (written_then (rw c.code_digits.ensures at c.put_all.ensures.wrote)
+    (written_then (rw (to_z-of_z c.ranges.ltk) at c.put-then-is_code.ensures.wrote) (lastly (rw (to_z-of_z c.ranges.lpo) at c.put-then-is_code-2.ensures.wrote)))))
 
-pub returns : goal.returns
-unfolding frame_of kind_of kind_byte fields_of values_of all_bytes bytes_of total width plain_bytes size
-returns c =
-    written (BankLimits c.args.code c.args.ltk c.args.lpo) c.args.frame.now _ 23
-    (limits_formed c.args.code c.args.ltk c.args.lpo (fits_money c.args.ltk c.ranges.ltk) (fits_money c.args.lpo c.ranges.lpo) ∙ sym c.is_code.ensures ∙ c.if-not-is_code.false) c.requires
-    (behind _ _ _ 0 1 _ _ c.put_byte.ensures refl
-    (behind _ _ _ 1 6 _ _ c.put_code.ensures (length_digits 6 _)
-    (behind _ _ _ 7 8 _ _ (amount_kept _ _ 7 c.args.ltk c.ranges.ltk c.put_i64.ensures) (length_money _)
-    (lastly _ _ 15 _ (amount_kept _ _ 15 c.args.lpo c.ranges.lpo c.put_i64-2.ensures)))))
-    refl
+pub returns-else-is_code-clause-wrote : goal.returns-else-is_code-clause-wrote
+returns-else-is_code-clause-wrote c =
+    refused (BankLimits c.args.code c.args.ltk c.args.lpo)
+    (limits_formed c.args.code c.args.ltk c.args.lpo (fits_money c.args.ltk c.ranges.ltk) (fits_money c.args.lpo c.ranges.lpo) ∙ sym c.is_code.ensures ∙ c.if-is_code.false)

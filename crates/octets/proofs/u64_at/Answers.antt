@@ -1,8 +1,0 @@
-use native.Mathlib.Omega.{arith}
-use Rattle.octets.proofs.Places.{number_join}
-use Rattle.octets.proofs.u64_at.Goals as goal
-
-pub returns : goal.returns
-returns c =
-    let s = c.before.before.before in
-    omega (arith, number_join s.args.at 4 4 s.args.s.now (omega arith))
