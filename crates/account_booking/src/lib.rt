@@ -1,35 +1,44 @@
-// What is booked on one account: turnovers, each by its place, and the start value.
-#![tactic(auto)]
+// What is booked on one account: turnovers, and the start value.
+#![tactic(auto, unfolding(rules::specs::Account::with_start, rules::specs::Payment::out_turnover, rules::specs::Payment::in_turnover, account::specs::View::to_account, account::specs::View::to_turnover))]
 
 ghost use Rattle.std.specs.Prelude.{◌≡◌, ◌+◌, ◌≤◌, ◌<◌, ◌^◌, pos, nat_abs, ◌+ℤ◌, ◌-ℤ◌, T};
 ghost use Rattle.amount.specs.Amount.{is_amount};
 ghost use Rattle.rules.specs.Account as Rule;
 ghost use Rattle.rules.specs.Payment as Payment;
 ghost use Rattle.rules.specs.Invariant.{Sized};
-ghost use Rattle.account.specs.View.{to_account, turnover_of};
+ghost use Rattle.account.specs.View.{to_account, to_turnover};
+ghost use Rattle.account_booking.specs.Side.{side_turnover};
 
-use account::Account;
+use account::{Account, Turnover};
 
-pub fn out_turnover(credit: bool) -> usize
-    ensures { (result < 4) × (turnover_of result ≡ Payment.out_turnover credit) }
-{
-    if credit { 0 } else { 3 }
+// Whose turnover a payment raises.
+#[derive(Clone, Copy, PartialEq, Eq)]
+pub enum Side {
+    Payer,
+    Payee,
 }
 
-pub fn in_turnover(credit: bool) -> usize
-    ensures { (result < 4) × (turnover_of result ≡ Payment.in_turnover credit) }
-{
-    if credit { 1 } else { 2 }
+impl Side {
+    // Of a credit, or of a debit.
+    pub fn turnover(self, credit: bool) -> Turnover
+        ensures { to_turnover result ≡ side_turnover self credit }
+    {
+        match (self, credit) {
+            (Side::Payer, true) => Turnover::Icdt,
+            (Side::Payer, false) => Turnover::Rddt,
+            (Side::Payee, true) => Turnover::Rcdt,
+            (Side::Payee, false) => Turnover::Iddt,
+        }
+    }
 }
 
 // Between the bookings of one payment a turnover may be above 10^17.
-pub fn raised(x: Account, place: usize, n: u64) -> Account
-    requires { (place < 4) × (Rule.turnover (turnover_of place) (to_account x).turnovers + n < 2 ^ 64) }
-    ensures { to_account result ≡ Payment.raised (turnover_of place) n (to_account x) }
+pub fn raised(mut x: Account, turnover: Turnover, n: u64) -> Account
+    requires { Rule.turnover (to_turnover turnover) (to_account x).turnovers + n < 2 ^ 64 }
+    ensures { to_account result ≡ Payment.raised (to_turnover turnover) n (to_account x) }
 {
-    let mut y = x;
-    y.turnovers[place] = y.turnovers[place] + n;
-    y
+    x.turnovers[turnover.place()] += n;
+    x
 }
 
 // An amount, once it is known to be in range, as what is booked.
@@ -43,9 +52,7 @@ pub fn amount_of(a: i64) -> u64
 pub fn with_start(x: Account, start: i64) -> Account
     ensures { to_account result ≡ Rule.with_start start (to_account x) }
 {
-    let mut y = x;
-    y.start = start;
-    y
+    Account { start, ..x }
 }
 
 // A funding.

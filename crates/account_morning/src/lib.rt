@@ -7,7 +7,7 @@ ghost use Rattle.rules.specs.Day as Day;
 ghost use Rattle.rules.specs.Invariant.{Sized, limit_ok};
 ghost use Rattle.account.specs.View.{to_account, to_limit};
 
-use account::{Account, Limit, Owner, with_limits};
+use account::{Account, Limit};
 use account_booking::with_start;
 use amount::{balance, cut, state};
 
@@ -15,17 +15,12 @@ fn morning_value(method: u8, less: i64, v: i64) -> Limit
     requires { (nat_abs less ≤ 2 * 10 ^ 17) × (nat_abs v ≤ 10 ^ 15) }
     ensures { to_limit result ≡ Day.morning method less (Rule.Value v) }
 {
-    if method == 0 {
-        return Limit::Value(v);
+    match method {
+        0 => Limit::Value(v),
+        1 => Limit::Value(0),
+        2 => Limit::Closed,
+        _ => Limit::Value(cut(v - less)),
     }
-    if method == 1 {
-        return Limit::Value(0);
-    }
-    if method == 2 {
-        return Limit::Closed;
-    }
-    let adjusted = cut(v - less);
-    Limit::Value(adjusted)
 }
 
 // A limit by its morning method; an adjusting one takes off `less`.
@@ -43,13 +38,9 @@ fn morning_limits(x: Account) -> Account
     requires { (Sized (to_account x)) × (T (limit_ok (to_account x).ltk)) × (T (limit_ok (to_account x).lpo)) }
     ensures { to_account result ≡ Day.morning_limits (to_account x) }
 {
-    let turnovers = x.turnovers;
-    let icdt = turnovers[0];
-    let ltk = x.ltk;
-    let lpo = x.lpo;
-    let morning_ltk = morning(x.ltk_method, balance(turnovers), ltk);
-    let morning_lpo = morning(x.lpo_method, icdt as i64, lpo);
-    with_limits(x, morning_ltk, morning_lpo)
+    let ltk = morning(x.ltk_method, balance(x.turnovers), x.ltk);
+    let lpo = morning(x.lpo_method, x.turnovers[0] as i64, x.lpo);
+    x.with_limits(ltk, lpo)
 }
 
 // The day balance put into the start value.
@@ -57,28 +48,24 @@ fn carried(x: Account) -> Account
     requires { Sized (to_account x) }
     ensures { to_account result ≡ Rule.with_start ((to_account x).start +ℤ Rule.balance (to_account x).turnovers) (to_account x) }
 {
-    let start = x.start;
-    let turnovers = x.turnovers;
-    let evening = state(start, turnovers);
-    with_start(x, evening)
+    with_start(x, state(x.start, x.turnovers))
 }
 
 fn fresh_turnovers(x: Account) -> Account
     ensures { to_account result ≡ Rule.with_turnovers Rule.no_turnovers (to_account x) }
 {
-    let none: [u64; 4] = [0; 4];
-    let mut y = x;
-    y.turnovers = none;
-    y
+    Account {
+        turnovers: [0; 4],
+        ..x
+    }
 }
 
 pub fn new_day(x: Account) -> Account
     requires { (Sized (to_account x)) × (T (limit_ok (to_account x).ltk)) × (T (limit_ok (to_account x).lpo)) }
     ensures { to_account result ≡ Day.new_day (to_account x) }
 {
-    let owner = x.owner;
-    match owner {
-        Owner::Bank => fresh_turnovers(carried(x)),
-        Owner::Branch(_) => fresh_turnovers(morning_limits(x)),
+    match x.owner {
+        None => fresh_turnovers(carried(x)),
+        Some(_) => fresh_turnovers(morning_limits(x)),
     }
 }

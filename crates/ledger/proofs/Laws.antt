@@ -1,34 +1,32 @@
 -- What a call on the whole record has to show where it refuses and where it accepts. Assumes nothing.
 use mathlib.Core.Path.{◌≡◌, refl, sym, ap, ◌∙◌, subst}
-use mathlib.Core.Bool.{Bool, true, false, cond}
+use mathlib.Core.Bool.{Bool, true, false, cond, not}
 use mathlib.Core.List.{List, [], ◌∷◌}
 use Prim.Native.Nat.{ℕ, zero, suc, ◌+◌, ◌≤◌, ◌<◌}
 use native.Mathlib.Omega.{arith}
-use lib.Dec.{T, ltb, ltb→lt}
-use lib.ListN.{length, take, get_or}
+use borrow.Author.Tests.{leb-true, leb-false, lt-ltb, le-ltb}
+use lib.Dec.{T, leb, ltb, ltb→lt}
+use lib.ListN.{length, take}
 use Rattle.octets.specs.Octets.{write}
 use Rattle.octets.proofs.Places.{take_none}
 use Rattle.rules.specs.Account as Rule
 use Rattle.rules.specs.Account.{codes}
 use Rattle.rules.specs.Command.{Header, Command, Opening}
 use Rattle.rules.specs.Invariant.{Invariant}
-use Rattle.rules.specs.Machine.{Machine, empty, with_id, checks, effect, first_failure, answer, if_accepted, next, outcome}
+use Rattle.rules.specs.Machine.{Machine, empty, with_id, has_book_place, checks, effect, first_failure, answer, if_accepted, next, outcome}
 use Rattle.rules.specs.Message.{keep_from}
 use Rattle.rules.proofs.Bools.{and_l, and_r}
 use Rattle.rules.proofs.Checks.{refused_keeps}
 use Rattle.rules.proofs.Theorem.{next_keeps, start_inv}
-use Rattle.account.specs.declared.Account.{Account}
 use Rattle.table.specs.declared.Table.{Table}
-use Rattle.table.specs.declared.Reply.{Reply}
-use Rattle.table.specs.Promise.{Good, Called}
+use Rattle.table.specs.Promise.{Reply, Good, Called}
 use Rattle.table.specs.View.{accounts_of, machine_of}
-use Rattle.table.proofs.Called.{stored_same}
 use Rattle.book.specs.declared.Book.{Book}
 use Rattle.book.specs.Entries.{entries_of, book_of, Lengths, Behind, Added, Dropped}
-use Rattle.book.proofs.Laws.{untouched}
-use Rattle.ledger.specs.declared.Noted.{Noted}
+use Rattle.book.proofs.Laws.{untouched, entries_length}
+use Rattle.ledger.specs.declared.Ledger.{Ledger}
 use Rattle.ledger.specs.View.{view_of, ledger_view, lent, outcome_of, next_of}
-use Rattle.ledger.specs.Promise.{Sound, SoundLedger, Same, Settled, Played, SettledAt}
+use Rattle.ledger.specs.Promise.{Noted, Sound, SoundLedger, Same, Settled, Played}
 use Rattle.ledger.specs.Calls.{plain, silent}
 use Rattle.ledger.proofs.Reaches.{with_book, below, checks_small, unreported}
 use Rattle.ledger.proofs.Lift.{lifted, lifted_day, inv_table}
@@ -56,13 +54,6 @@ module _ (k : Command) (t : Table) (ids days : List ℕ) (used : ℕ) (g : Sound
     refused = λ z. unchanged t ids days used;
     behind = untouched ids days used;
     sound = g;
-  }
-
-  pub settled_no_at : (a : ℕ) → a ≡ answer (view_of t ids days used) (lent 0 k) → ¬ (a ≡ 0) → (j : ℕ) (x d : Account) → j < 64 → x ≡ get_or t.accounts j d
-      → SettledAt k t ids days used (record { answer = a; used = used; place = j; account = x }) ids days
-  settled_no_at a e h j x d l s = record {
-    below = l;
-    settled = subst (λ (u : Table). Settled k t ids days used (record { answer = a; table = u; used = used }) ids days) (sym (stored_same t j x d s)) (settled_no a e h);
   }
 
   -- the record after an accepted call is sound where it is the machine's next
@@ -190,6 +181,16 @@ pub answer_small : (m : Machine) (room : ℕ) (cs : List Command) → (outcome_o
 unfolding outcome_of outcome answer
 answer_small m room [] = omega arith
 answer_small m room (k ∷ cs) = failure_small (checks m room k) (checks_small m room k)
+
+-- ---- a place in the book
+
+pub not_full : (l : Ledger) → not (leb 1024 l.book.used) ≡ has_book_place (ledger_view l)
+unfolding has_book_place ledger_view view_of
+not_full l = rw (entries_length l.book.ids l.book.days l.book.used) (go (leb 1024 l.book.used) refl)
+  where
+    go : (b : Bool) → leb 1024 l.book.used ≡ b → not b ≡ ltb l.book.used 1024
+    go true e = sym (le-ltb l.book.used 1024 (leb-true 1024 l.book.used e))
+    go false e = sym (lt-ltb l.book.used 1024 (leb-false 1024 l.book.used e))
 
 -- ---- the start
 

@@ -9,9 +9,8 @@ use Rattle.rules.specs.Invariant.{Book, Invariant}
 use Rattle.rules.specs.Machine.{Machine, checks, effect, answer, if_accepted, next}
 use Rattle.rules.specs.Message.{Entry, keep_from}
 use Rattle.table.specs.declared.Table.{Table}
-use Rattle.table.specs.declared.Reply.{Reply}
 use Rattle.table.specs.View.{machine_of}
-use Rattle.table.specs.Promise.{call, Called}
+use Rattle.table.specs.Promise.{Reply, call, Called}
 use Rattle.ledger.specs.View.{lent}
 use Rattle.ledger.specs.Calls.{plain}
 use Rattle.ledger.proofs.Reaches.{with_book, on_table}

@@ -7,9 +7,7 @@ use lib.ListN.{length, take}
 use Rattle.octets.proofs.Places.{take_none}
 use Rattle.rules.specs.Command.{Command}
 use Rattle.ledger.specs.declared.Ledger.{Ledger}
-use Rattle.ledger.specs.declared.Noted.{Noted}
-use Rattle.ledger.specs.declared.Stepped.{Stepped}
-use Rattle.ledger.specs.Promise.{Settled, Played}
+use Rattle.ledger.specs.Promise.{Noted, Stepped, Settled, Played}
 use Rattle.ledger.specs.Program.{Step}
 use Rattle.ledger.specs.View.{lent}
 use Rattle.ledger.specs.Calls.{silent, CallsAreSteps}

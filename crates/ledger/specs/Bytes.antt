@@ -6,9 +6,7 @@ use Rattle.rules.specs.Command.{Command}
 use Rattle.rules.specs.Machine.{Machine, next}
 use Rattle.rules.specs.Message.{Entry}
 use Rattle.table.specs.declared.Table.{Table}
-use Rattle.ledger.specs.declared.Noted.{Noted}
-use Rattle.ledger.specs.declared.Stepped.{Stepped}
-use Rattle.ledger.specs.Promise.{Sound, Settled, Played}
+use Rattle.ledger.specs.Promise.{Noted, Stepped, Sound, Settled, Played}
 use Rattle.ledger.specs.View.{view_of, lent, next_of}
 
 -- the ids one after the other

@@ -2,12 +2,9 @@
 -- list of the program's calls is a list that the theorem speaks of. Assumes nothing.
 use Rattle.std.specs.Prelude.{Bool, true, false, List, [], ◌∷◌, T, length, take, ℕ}
 use Rattle.rules.specs.Command.{Command, Bank, Branch, Funding, Withdrawal, BankLimits, Payment, Change, Deletion, Query, Opening, Search, Letters, Mark}
-use Rattle.table.specs.declared.Reply.{Reply}
-use Rattle.table.specs.Promise.{Called}
+use Rattle.table.specs.Promise.{Reply, Called}
 use Rattle.ledger.specs.declared.Ledger.{Ledger}
-use Rattle.ledger.specs.declared.Noted.{Noted}
-use Rattle.ledger.specs.declared.Stepped.{Stepped}
-use Rattle.ledger.specs.Promise.{SoundLedger, Settled, Played}
+use Rattle.ledger.specs.Promise.{Noted, Stepped, SoundLedger, Settled, Played}
 use Rattle.ledger.specs.Program.{Step}
 use Rattle.ledger.specs.View.{lent}
 

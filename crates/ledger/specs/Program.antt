@@ -5,8 +5,7 @@ use Rattle.rules.specs.Command.{Call}
 use Rattle.rules.specs.Demand.{DemandFrom, Plays}
 use Rattle.rules.specs.Machine.{Machine, Outcome}
 use Rattle.ledger.specs.declared.Ledger.{Ledger}
-use Rattle.ledger.specs.declared.Stepped.{Stepped}
-use Rattle.ledger.specs.Promise.{SoundLedger, Played}
+use Rattle.ledger.specs.Promise.{Stepped, SoundLedger, Played}
 use Rattle.ledger.specs.View.{ledger_view}
 
 -- the call k on the record l left the record u: some buffer of the call's length was lent, and what came back meets the call's contract

@@ -1,5 +1,5 @@
 -- What a record is, and what every call on it promises. Assumes nothing.
-use Rattle.std.specs.Prelude.{◌≡◌, List, ℕ, ◌≤◌, ◌<◌, length, take}
+use Rattle.std.specs.Prelude.{◌≡◌, List, ℕ, ◌≤◌, length, take, Result, Ok, Err}
 use Rattle.octets.specs.Octets.{write}
 use Rattle.rules.specs.Account.{codes}
 use Rattle.rules.specs.Command.{Command}
@@ -7,12 +7,10 @@ use Rattle.rules.specs.Invariant.{Invariant}
 use Rattle.rules.specs.Machine.{answer, next}
 use Rattle.table.specs.declared.Table.{Table}
 use Rattle.table.specs.View.{accounts_of}
-use Rattle.table.specs.Promise.{stored_at}
+use Rattle.refusal.specs.declared.Refusal.{Refusal}
+use Rattle.refusal.specs.Answer.{answer_of}
 use Rattle.book.specs.Entries.{Lengths, Behind}
 use Rattle.ledger.specs.declared.Ledger.{Ledger}
-use Rattle.ledger.specs.declared.Noted.{Noted}
-use Rattle.ledger.specs.declared.Stepped.{Stepped}
-use Rattle.ledger.specs.declared.Entered.{Entered}
 use Rattle.ledger.specs.View.{view_of, lent, outcome_of, next_of}
 
 -- what `fresh` gives and every call gives back
@@ -34,6 +32,19 @@ pub record Same (t : Table) (ids days : List ℕ) (used : ℕ) (t' : Table) (ids
   pub days_same : days' ≡ days
   pub used_same : used' ≡ used
 
+-- what a call answers, the table afterwards, and how many places of the book are used
+pub record Noted : Type 0 where
+  pub answer : ℕ
+  pub table : Table
+  pub used : ℕ
+
+-- the same with the length of the report that was written
+pub record Stepped : Type 0 where
+  pub answer : ℕ
+  pub table : Table
+  pub used : ℕ
+  pub report_len : ℕ
+
 -- of a call that has no report: the answer is the history machine's, the record afterwards is its next, a refusal leaves the very same record. The used
 -- places of the lent book hold what the next record says, byte for byte, and those behind them stay
 pub record Settled (k : Command) (t : Table) (ids days : List ℕ) (used : ℕ) (r : Noted) (ids' days' : List ℕ) : Type 0 where
@@ -54,14 +65,17 @@ pub record Played (cs : List Command) (t : Table) (ids days : List ℕ) (used : 
   pub behind : Behind ids days ids' days' r.used
   pub sound : Sound r.table ids' days' r.used
 
--- ---- the same of whoever stores the account that came back at its place. A refusal gives the account that stands there
+-- ---- the same of a call that is lent the whole record, gives the result r and leaves the record u
 
-pub record SettledAt (k : Command) (t : Table) (ids days : List ℕ) (used : ℕ) (r : Entered) (ids' days' : List ℕ) : Type 0 where
-  pub below : r.place < 64
-  pub settled : Settled k t ids days used (record { answer = r.answer; table = stored_at t r.place r.account; used = r.used }) ids' days'
+abbrev pub Settles : {X : Type 0} → Command → Ledger → Result X Refusal → Ledger → Type 0
+Settles k l r u =
+    Settled k l.table l.book.ids l.book.days l.book.used (record { answer = answer_of r; table = u.table; used = u.book.used }) u.book.ids u.book.days
 
--- there is no report
-pub record PlayedAt (cs : List Command) (t : Table) (ids days : List ℕ) (used : ℕ) (r : Entered) (ids' days' : List ℕ) : Type 0 where
-  pub below : r.place < 64
-  pub played : (report : List ℕ)
-      → Played cs t ids days used report (record { answer = r.answer; table = stored_at t r.place r.account; used = r.used; report_len = 0 }) ids' days' report
+-- the length of the report: a refusal has none
+abbrev pub length_of : Result ℕ Refusal → ℕ
+length_of (Ok n) = n
+length_of (Err e) = 0
+
+abbrev pub Reports : List Command → Ledger → List ℕ → Result ℕ Refusal → Ledger → List ℕ → Type 0
+Reports cs l report r u report' =
+    Played cs l.table l.book.ids l.book.days l.book.used report (record { answer = answer_of r; table = u.table; used = u.book.used; report_len = length_of r }) u.book.ids u.book.days report'

@@ -1,14 +1,14 @@
 -- Every account's new day, one after the other, kind 0a. Assumes nothing.
 use mathlib.Core.Path.{◌≡◌, refl, sym, ap, ap₂, ◌∙◌}
 use mathlib.Core.Bool.{cond}
-use mathlib.Core.List.{List, [], ◌∷◌, ◌++◌, map, map-append}
-use Prim.Native.Nat.{ℕ, ◌+◌, ◌<◌, ◌^◌}
+use mathlib.Core.List.{List, [], ◌∷◌, ◌++◌, map}
+use Prim.Native.Nat.{ℕ, zero, suc, ◌+◌, ◌≤◌, ◌<◌, ◌^◌}
 use native.Mathlib.Omega.{arith}
 use native.Mathlib.Numerals.{add-one}
 use borrow.Author.Tests.{lt-ltb}
 use lib.Dec.{T, ltb}
-use lib.ListN.{length, take, drop, get_or, set, length-set}
-use lib.Seq.{take-suc, take-suc-set, take_all, get_or-drop, drop-set-lt, drop-drop}
+use lib.ListN.{length, take, drop, get_or, set, length-map}
+use lib.Seq.{take-append_seam}
 use Rattle.rules.specs.Account as Rule
 use Rattle.rules.specs.Account.{codes, blank}
 use Rattle.rules.specs.Command.{Opening, is_day, well_formed}
@@ -24,56 +24,63 @@ use Rattle.table.specs.declared.Table.{Table}
 use Rattle.table.specs.View.{accounts_of, machine_of}
 use Rattle.table.specs.Promise.{Good, call, Called}
 use Rattle.table.proofs.Called.{every_sized, accepted}
-use Rattle.table.proofs.Places.{accounts_length, accounts_at}
+use Rattle.table.proofs.Places.{map_get_or, map_set}
 use Rattle.table.specs.Promise.{Holds}
 
--- the first i accounts of t have had their new day in u, the others stand as they were
-pub record Renewed (t u : Table) (i : ℕ) : Type 0 where
-  pub codes_are : u.codes ≡ t.codes
-  pub count_is : u.count ≡ t.count
-  pub day_is : u.day ≡ t.day
-  pub long : length u.accounts ≡ 64
-  pub done : map to_account (take i u.accounts) ≡ map new_day (take i (accounts_of t))
-  pub left : drop i u.accounts ≡ drop i t.accounts
+-- the first i of a list mapped, the others as they were
+abbrev pub mapped : {X : Type 0} → (X → X) → ℕ → List X → List X
+mapped f i xs = map f (take i xs) ++ drop i xs
 
-pub renewed_none : (t : Table) → length t.accounts ≡ 64 → Renewed t t 0
-renewed_none t l = record { codes_are = refl; count_is = refl; day_is = refl; long = l; done = refl; left = refl }
+module _ {X : Type 0} (f : X → X) where
+  pub mapped_next : (i : ℕ) (xs : List X) (d : X) → i < length xs → get_or (mapped f i xs) i d ≡ get_or xs i d
+  mapped_next i [] d h = absurd (omega arith)
+  mapped_next zero (x ∷ xs) d h = refl
+  mapped_next (suc i) (x ∷ xs) d h = mapped_next i xs d (omega arith)
 
--- the next account is still the old one
-pub renewed_next : {t u : Table} (i : ℕ) (d : Account) → Renewed t u i → get_or u.accounts i d ≡ get_or t.accounts i d
-renewed_next {t} {u} i d r =
-    let z : i + 0 ≡ i = omega arith in
-    ap (λ n. get_or u.accounts n d) (sym z) ∙ sym (get_or-drop i u.accounts 0 d) ∙ ap (λ l. get_or l 0 d) r.left ∙ get_or-drop i t.accounts 0 d ∙ ap (λ n. get_or t.accounts n d) z
+  pub mapped_one : (i : ℕ) (xs : List X) (d : X) → i < length xs → set (mapped f i xs) i (f (get_or xs i d)) ≡ mapped f (suc i) xs
+  mapped_one i [] d h = absurd (omega arith)
+  mapped_one zero (x ∷ xs) d h = refl
+  mapped_one (suc i) (x ∷ xs) d h = ap (λ l. f x ∷ l) (mapped_one i xs d (omega arith))
 
-module _ (t : Table) (g : Good t) (l : length t.accounts ≡ 64) (u : Table) (i : ℕ) (r : Renewed t u i) where
-  pub renewed_one : (y d : Account) → i < t.count → to_account y ≡ new_day (to_account (get_or u.accounts i d))
-      → Renewed t (record { codes = u.codes; accounts = set u.accounts i y; count = u.count; day = u.day }) (i + 1)
-  renewed_one y d h e = record {
-    codes_are = r.codes_are;
-    count_is = r.count_is;
-    day_is = r.day_is;
-    long = simp length-set r.long;
-    done =
-        ap (λ n. map to_account (take n (set u.accounts i y))) (add-one i)
-        ∙ ap (map to_account) (take-suc-set u.accounts i y (omega (arith, r.long, g.within)))
-        ∙ map-append to_account (take i u.accounts) (y ∷ [])
-        ∙ ap₂ (λ xs x. xs ++ (x ∷ [])) r.done (e ∙ ap (λ x. new_day (to_account x)) (renewed_next i d r) ∙ ap new_day (sym (accounts_at t g.within l i d blank h)))
-        ∙ sym (map-append new_day (take i (accounts_of t)) (get_or (accounts_of t) i blank ∷ []))
-        ∙ sym (ap (map new_day) (take-suc (accounts_of t) i blank (omega (arith, accounts_length t g.within l))))
-        ∙ sym (ap (λ n. map new_day (take n (accounts_of t))) (add-one i));
-    left = drop-set-lt (i + 1) u.accounts i y (omega arith) ∙ sym (drop-drop 1 i u.accounts) ∙ ap (drop 1) r.left ∙ drop-drop 1 i t.accounts;
-  }
+  pub mapped_length : (i : ℕ) (xs : List X) → length (mapped f i xs) ≡ length xs
+  mapped_length zero xs = refl
+  mapped_length (suc i) [] = refl
+  mapped_length (suc i) (x ∷ xs) = ap suc (mapped_length i xs)
 
-  pub renewed_all : i ≡ t.count → Holds t u (map new_day (accounts_of t))
-  unfolding machine_of with_accounts accounts_of
-  renewed_all h =
-      let accounts : map to_account (take u.count u.accounts) ≡ map new_day (accounts_of t) =
-      ap (λ n. map to_account (take n u.accounts)) (r.count_is ∙ sym h) ∙ r.done ∙ ap (map new_day) (take_all i (accounts_of t) (omega (arith, accounts_length t g.within l))) in
-      record {
-        within = omega (arith, r.count_is, g.within);
-        same = ap₂ take r.count_is r.codes_are ∙ g.same ∙ sym (codes_map new_day tame_new_day.code_kept (accounts_of t)) ∙ ap codes (sym accounts);
-        view = ap₂ (λ xs d. record { day = d; accounts = xs; ids = [] }) accounts r.day_is;
-      }
+  pub mapped_all : (i : ℕ) (xs : List X) → length xs ≤ i → mapped f i xs ≡ map f xs
+  mapped_all zero [] h = refl
+  mapped_all (suc i) [] h = refl
+  mapped_all zero (x ∷ xs) h = absurd (omega arith)
+  mapped_all (suc i) (x ∷ xs) h = ap (λ l. f x ∷ l) (mapped_all i xs (omega arith))
+
+-- the next of the accounts items, whose first i have had their new day
+module _ (t : Table) (items : List Account) (i : ℕ) (e : map to_account items ≡ mapped new_day i (accounts_of t)) (h : i < length items) where
+  pub below : i < length (accounts_of t)
+  below = let n = rw length-map at (ap length e ∙ mapped_length new_day i (accounts_of t)) in omega arith
+
+  pub old_one : (d : Account) → to_account (get_or items i d) ≡ get_or (accounts_of t) i blank
+  old_one d = sym (map_get_or to_account items i d blank h) ∙ ap (λ l. get_or l i blank) e ∙ mapped_next new_day i (accounts_of t) blank below
+
+  pub new_one : (y d : Account) → to_account y ≡ new_day (to_account (get_or items i d)) → map to_account (set items i y) ≡ mapped new_day (i + 1) (accounts_of t)
+  new_one y d f =
+      map_set to_account items i y
+      ∙ ap₂ (λ l x. set l i x) e (f ∙ ap new_day (old_one d))
+      ∙ mapped_one new_day i (accounts_of t) blank below
+      ∙ ap (λ n. mapped new_day n (accounts_of t)) (sym (add-one i))
+
+-- all of them
+pub renewed : (t : Table) → Good t → (items rest : List Account) (i : ℕ) → map to_account items ≡ mapped new_day i (accounts_of t) → t.count ≡ length (accounts_of t) → length items ≤ i
+    → Holds t (record { codes = t.codes; accounts = items ++ rest; count = t.count; day = t.day }) (map new_day (accounts_of t))
+unfolding machine_of with_accounts accounts_of
+renewed t g items rest i e l h =
+    let same = rw length-map at (ap length e ∙ mapped_length new_day i (accounts_of t)) in
+    let accounts : map to_account (take t.count (items ++ rest)) ≡ map new_day (accounts_of t) =
+    ap (λ n. map to_account (take n (items ++ rest))) (l ∙ sym same) ∙ ap (map to_account) (take-append_seam items rest) ∙ e ∙ mapped_all new_day i (accounts_of t) (omega arith) in
+    record {
+      within = g.within;
+      same = g.same ∙ sym (codes_map new_day tame_new_day.code_kept (accounts_of t)) ∙ ap codes (sym accounts);
+      view = ap (λ xs. with_accounts xs (machine_of t)) accounts;
+    }
 
 -- what a new day asks of an account
 abbrev pub Ready : Rule.Account → Type 0

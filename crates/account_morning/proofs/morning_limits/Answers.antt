@@ -17,24 +17,24 @@ icdt-reads c = let m = at_most c.args.x (sized_light c.requires.0) in low_to_z (
 pub balance-requires : goal.balance-requires
 balance-requires c = at_most c.args.x (sized_light c.requires.0)
 
-pub morning-morning_ltk-requires : goal.morning-morning_ltk-requires
+pub morning-ltk-requires : goal.morning-ltk-requires
 unfolding to_account
-morning-morning_ltk-requires c =
+morning-ltk-requires c =
     rw (balance_reads c.args.x c.balance.result c.balance.type_inv c.balance.ensures) (c.requires.0.balance_small, c.requires.1)
 
-pub overflow_cast-icdt : goal.overflow_cast-icdt
-overflow_cast-icdt c =
+pub overflow_cast-x : goal.overflow_cast-x
+overflow_cast-x c =
     let m = at_most c.args.x (sized_light c.requires.0) in
     size_fits _ (omega arith)
 
-pub morning-morning_lpo-requires : goal.morning-morning_lpo-requires
+pub morning-lpo-requires : goal.morning-lpo-requires
 unfolding to_account
-morning-morning_lpo-requires c =
+morning-lpo-requires c =
     let m = at_most c.args.x (sized_light c.requires.0) in
-    rw (icdt-reads (goal.at.morning-morning_lpo-requires c).Start) (omega arith, c.requires.2)
+    rw (icdt-reads (goal.at.morning-lpo-requires c).Start) (omega arith, c.requires.2)
 
 pub returns : goal.returns
 unfolding morning_limits to_account to_turnovers
 returns c =
     let less = balance_reads c.args.x c.balance.result c.balance.type_inv c.balance.ensures in
-    rw (c.with_limits.ensures, c.morning-morning_lpo.ensures, c.morning-morning_ltk.ensures, less, icdt-reads (goal.at.returns c).Start)
+    rw (c.with_limits.ensures, c.morning-lpo.ensures, c.morning-ltk.ensures, less, icdt-reads (goal.at.returns c).Start)

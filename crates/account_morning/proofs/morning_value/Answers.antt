@@ -1,29 +1,26 @@
 use native.Mathlib.Omega.{arith}
-use mir.Facts.{to_z-of_z}
-use Rattle.amount.proofs.Integer.{back, told}
+use borrow.Author.Rules.{rules}
+use Rattle.amount.proofs.Integer.{back}
 use Rattle.rules.specs.Day.{morning}
 use Rattle.account.specs.View.{to_limit}
-use Rattle.account.proofs.Laws.{diff_fits, minus_reads}
+use Rattle.account.proofs.Laws.{minus_reads}
 use Rattle.account_morning.proofs.Day.{morning_adjusts}
 use Rattle.account_morning.proofs.morning_value.Goals as goal
 
-pub returns-then-method-eq0 : goal.returns-then-method-eq0
+pub returns-in-0 : goal.returns-in-0
 unfolding morning to_limit
-returns-then-method-eq0 c = rw (to_z-of_z c.ranges.v, c.if-method-eq0.true)
+returns-in-0 c = rw c.in-0.is (search rules)
 
-pub returns-then-method-eq1 : goal.returns-then-method-eq1
+pub returns-in-1 : goal.returns-in-1
 unfolding morning to_limit
-returns-then-method-eq1 c = rw c.if-method-eq1.true
+returns-in-1 c = rw c.in-1.is (search rules)
 
-pub returns-then-method-eq2 : goal.returns-then-method-eq2
+pub returns-in-2 : goal.returns-in-2
 unfolding morning to_limit
-returns-then-method-eq2 c = rw c.if-method-eq2.true
+returns-in-2 c = rw c.in-2.is (search rules)
 
-pub overflow_sub-v : goal.overflow_sub-v
-overflow_sub-v c = omega (arith, diff_fits, told c.ranges.v, told c.ranges.less)
-
-pub returns : goal.returns
+pub returns-in_default : goal.returns-in_default
 unfolding to_limit
-returns c =
-    let adjusts = morning_adjusts c.args.method c.args.less c.args.v c.if-method-eq0.false c.if-method-eq1.false c.if-method-eq2.false in
-    rw (adjusts, back c.cut-adjusted.result c.cut-adjusted.type_inv, c.cut-adjusted.ensures, minus_reads c.args.v c.args.less (omega (arith, c.requires)))
+returns-in_default c =
+    let adjusts = morning_adjusts c.args.method c.args.less c.args.v (search rules) (search rules) (search rules) in
+    rw (adjusts, back c.cut.result c.cut.type_inv, c.cut.ensures, minus_reads c.args.v c.args.less (omega (arith, c.requires)))

@@ -2,10 +2,10 @@ use Rattle.rules.specs.Day.{new_day, new_day_of}
 use Rattle.account.specs.View.{to_account, to_owner}
 use Rattle.account_morning.proofs.new_day.Goals as goal
 
-pub returns-in-Bank : goal.returns-in-Bank
+pub returns-in-None : goal.returns-in-None
 unfolding to_account to_owner new_day new_day_of
-returns-in-Bank c = rw (c.fresh_turnovers.ensures, c.carried.ensures, c.in-Bank.is)
+returns-in-None c = rw (c.fresh_turnovers.ensures, c.carried.ensures, c.in-None.is)
 
-pub returns-in-Branch : goal.returns-in-Branch
+pub returns-in-Some : goal.returns-in-Some
 unfolding to_account to_owner new_day new_day_of
-returns-in-Branch c = rw (c.fresh_turnovers-in-Branch.ensures, c.morning_limits.ensures, c.in-Branch.is)
+returns-in-Some c = rw (c.fresh_turnovers-in-Some.ensures, c.morning_limits.ensures, c.in-Some.is)

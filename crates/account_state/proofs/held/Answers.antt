@@ -3,11 +3,11 @@ use Rattle.rules.specs.Account.{state, state_of, held, held_of}
 use Rattle.account.specs.View.{to_account, to_owner}
 use Rattle.account_state.proofs.held.Goals as goal
 
-pub returns-in-Bank : goal.returns-in-Bank
+pub returns-in-None : goal.returns-in-None
 unfolding to_account to_owner held held_of state state_of
-returns-in-Bank c =
-    rw (back c.state_of-own.result c.state_of-own.type_inv, c.state_of-own.ensures, c.in-Bank.is)
+returns-in-None c =
+    rw (back c.state_of.result c.state_of.type_inv, c.state_of.ensures, c.in-None.is)
 
-pub returns-in-Branch : goal.returns-in-Branch
+pub returns-in-Some : goal.returns-in-Some
 unfolding to_account to_owner held held_of
-returns-in-Branch c = rw c.in-Branch.is
+returns-in-Some c = rw c.in-Some.is

@@ -10,13 +10,13 @@ state-requires c = let a = state_asks c.args.x c.requires in (omega arith, a.1)
 pub balance-requires : goal.balance-requires
 balance-requires c = at_most c.args.x (sized_light c.requires)
 
-pub returns-in-Bank : goal.returns-in-Bank
+pub returns-in-None : goal.returns-in-None
 unfolding to_account to_owner state state_of
-returns-in-Bank c =
-    rw c.in-Bank.is (state_reads c.args.x c.requires c.state.result c.state.type_inv c.state.ensures)
+returns-in-None c =
+    rw c.in-None.is (state_reads c.args.x c.requires c.state.result c.state.type_inv c.state.ensures)
 
-pub returns-in-Branch : goal.returns-in-Branch
+pub returns-in-Some : goal.returns-in-Some
 unfolding to_account to_owner state state_of
-returns-in-Branch c =
-    rw c.in-Branch.is
+returns-in-Some c =
+    rw c.in-Some.is
     (balance_reads c.args.x c.balance.result c.balance.type_inv c.balance.ensures)

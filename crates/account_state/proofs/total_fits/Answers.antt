@@ -5,8 +5,8 @@ use Rattle.amount.proofs.Laws.{sum_fits}
 use Rattle.account.proofs.Laws.{plus_reads, count_size}
 use Rattle.account_state.proofs.total_fits.Goals as goal
 
-pub overflow_add-total : goal.overflow_add-total
-overflow_add-total c = omega (arith, sum_fits, told c.ranges.sum, count_size c.args.n (omega arith))
+pub overflow_add-result : goal.overflow_add-result
+overflow_add-result c = omega (arith, sum_fits, told c.ranges.sum, count_size c.args.n (omega arith))
 
 pub returns : goal.returns
 returns c = rw (plus_reads c.args.sum (pos c.args.n) (omega arith))

@@ -1,8 +1,12 @@
 -- What is written at the end of the used places is one entry more. Assumes nothing.
 use mathlib.Core.Path.{refl}
+use Prim.Native.Nat.{◌*◌}
+use native.Mathlib.Omega.{arith}
+use Rattle.octets.proofs.Places.{copied}
 use Rattle.book.proofs.Laws.{added}
 use Rattle.book.proofs.add_id.Goals as goal
 
 pub returns : goal.returns
 returns c =
-    added c.args.ids.now c.args.days.now c.args.used c.args.id.now c.args.day _ _ c.requires.0 c.requires.1 c.requires.2 c.put_id.ensures refl
+    added c.args.ids.now c.args.days.now c.args.used c.args.id.now c.args.day _ _ c.requires.0 c.requires.1 c.requires.2
+    (copied c.args.ids.now (c.args.used * 32) _ c.args.id.now _ c.copy_from_slice.ensures.after (omega arith) (omega arith)) refl

@@ -1,21 +1,15 @@
 -- The answer over all places is the answer over the first n. Assumes nothing.
-use mathlib.Core.Path.{◌≡◌, refl, sym, ◌∙◌}
+use mathlib.Core.Path.{◌≡◌, sym, ◌∙◌}
 use mathlib.Core.List.{List}
 use Prim.Native.Nat.{ℕ, ◌+◌, ◌-◌, ◌*◌}
 use native.Mathlib.Omega.{arith}
-use lib.ListN.{take, drop, length-take, length-drop}
+use lib.ListN.{take, drop}
 use Rattle.octets.specs.Octets.{part}
 use Rattle.rules.specs.Command.{some?}
 use Rattle.rules.specs.Message.{same_bytes, in_book}
 use Rattle.book.specs.Entries.{entries_of}
 use Rattle.book.proofs.Laws.{found, passed}
 use Rattle.book.proofs.has_id.Goals as goal
-
-pub loop-n-init : goal.loop-n-init
-loop-n-init c = (omega arith, λ days. refl)
-
-pub same_id-requires : goal.same_id-requires
-same_id-requires c = (simp (length-take, length-drop) (omega arith), omega arith)
 
 -- the place that is lent
 place : (at : ℕ) (ids id : List ℕ) → same_bytes (part at 32 ids) id ≡ same_bytes (take (at + 32 - at) (drop at ids)) id
@@ -24,16 +18,14 @@ place at ids id = let e : at + 32 - at ≡ 32 = omega arith in rw e
 
 pub returns-then-same_id : goal.returns-then-same_id
 returns-then-same_id c days =
-    sym (c.loop-n.invariant.1 days ∙ found c.args.id.now c.args.ids.now days (c.loop-n.n - 1) c.loop-n.n (omega arith) (place ((c.loop-n.n - 1) * 32) c.args.ids.now _ ∙ sym c.same_id.ensures ∙ c.if-same_id.true))
+    sym (c.loop-n.invariant days ∙ found c.args.id.now c.args.ids.now days (c.loop-n.n - 1) c.loop-n.n (omega arith) (place ((c.loop-n.n - 1) * 32) c.args.ids.now _ ∙ sym c.same_id.ensures ∙ c.if-same_id.true))
 
 pub loop-n-preserved : goal.loop-n-preserved
-loop-n-preserved c = (
-  omega arith,
-  λ days. c.loop-n.invariant.1 days ∙ passed c.args.id.now c.args.ids.now days (c.loop-n.n - 1) c.loop-n.n (omega arith) (place ((c.loop-n.n - 1) * 32) c.args.ids.now _ ∙ sym c.same_id.ensures ∙ c.if-same_id.false),
-)
+loop-n-preserved c days =
+    c.loop-n.invariant days ∙ passed c.args.id.now c.args.ids.now days (c.loop-n.n - 1) c.loop-n.n (omega arith) (place ((c.loop-n.n - 1) * 32) c.args.ids.now _ ∙ sym c.same_id.ensures ∙ c.if-same_id.false)
 
 pub returns : goal.returns
 unfolding in_book some? entries_of
 returns c days =
     let e : c.loop-n.n ≡ 0 = omega arith in
-    sym (rw e at (c.loop-n.invariant.1 days))
+    sym (rw e at (c.loop-n.invariant days))

@@ -1,13 +1,19 @@
+use mathlib.Core.Path.{◌≡◌, ◌∙◌}
 use native.Mathlib.Omega.{arith}
-use native.Mathlib.Numerals.{add-one}
-use Rattle.table.proofs.Places.{here, past, ended}
+use borrow.Author.Rules.{rules}
+use borrow.Author.Tests.{tests}
+use lib.Dec.{eqb}
+use lib.ListN.{take}
+use lib.Seq.{length-take-le}
+use Rattle.std.proofs.lemmas.Iterator.{YieldsList-from_slice}
+use Rattle.std.proofs.lemmas.Iterator.Search.{position_from_yields_List}
+use Rattle.std.specs.List.{position}
+use Rattle.table.proofs.Places.{position_place}
 use Rattle.table.proofs.first_place.Goals as goal
 
-pub returns-then-all-i : goal.returns-then-all-i
-returns-then-all-i c = omega (arith, here c.args.code c.args.all.now c.args.n c.loop-i.i _ c.loop-i-test.true (omega (arith, c.requires.0, c.requires.1)) c.if-all-i.true)
-
-pub loop-i-preserved : goal.loop-i-preserved
-loop-i-preserved c = (omega arith, rw add-one (omega (arith, past c.args.code c.args.all.now c.args.n c.loop-i.i _ c.loop-i-test.true (omega (arith, c.requires.0, c.requires.1)) c.if-all-i.false)))
-
 pub returns : goal.returns
-returns c = omega (arith, ended c.args.code c.args.all.now c.args.n c.loop-i.i c.loop-i-test.false)
+returns c =
+    let codes = take c.args.n c.args.all.now in
+    let found : c.position.result ≡ position (λ d. eqb d c.args.code) codes =
+    position_from_yields_List (λ d. eqb d c.args.code) _ _ _ c.position.ensures.ran (YieldsList-from_slice codes cc) (λ x b q k. search (rules, tests)) in
+    c.unwrap_or.ensures ∙ position_place c.args.code c.args.n codes _ (omega (arith, length-take-le c.args.n c.args.all.now (omega arith))) found

@@ -1,52 +1,71 @@
 use borrow.Author.Rules.{rules}
 use native.Mathlib.Omega.{arith}
+use mathlib.Core.Path.{◌≡◌, sym, ap, ◌∙◌, subst}
+use Prim.Native.Nat.{suc, ◌+◌, ◌≤◌, ◌<◌, ◌^◌}
+use native.Mathlib.Numerals.{add-one}
+use lib.ListN.{length, drop}
+use lib.IntN.{ℤ, nat_abs, ◌+ℤ◌, ◌-ℤ◌, +ℤ_assoc, +ℤ_idr, +ℤ-neg_ℤ_cancel}
 use mir.Syntax.{w64}
 use mir.Val.{to_z, of_z, SFits}
 use mir.Facts.{to_z-of_z}
-use mathlib.Core.Path.{◌≡◌, sym, ap, ◌∙◌}
-use Prim.Native.Nat.{◌-◌}
-use lib.ListN.{length, drop}
-use lib.IntN.{ℤ, ◌+ℤ◌}
-use Rattle.amount.proofs.Integer.{back, size_fits}
+use Rattle.amount.proofs.Integer.{back, size_fits, diff_small}
 use Rattle.rules.specs.Account as Rule
 use Rattle.rules.specs.Invariant.{Sized}
 use Rattle.table.specs.View.{accounts_of}
 use Rattle.table.proofs.Places.{length_mapped}
-use Rattle.table.proofs.Called.{every_sized, place_has, total_end, total_back, total_small}
-use Rattle.table.proofs.total.Goals.{After-held-h}
+use Rattle.table.proofs.Called.{every_sized, place_has, total_end, total_step, total_small}
+use Rattle.table.proofs.total.Goals.{After-held-sum}
 use Rattle.table.proofs.total.Goals as goal
 
-pub loop-i-init : goal.loop-i-init
-loop-i-init c = let long : length c.args.t.accounts ≡ 64 = search (rules, length_mapped) in
-    (omega arith, sym (total_end c.args.t c.requires long))
+-- what the accounts from a place on hold
+abbrev rest : After-held-sum → ℤ
+rest c = Rule.total Rule.held (drop (suc c.loop-i.i) (accounts_of c.args.t.now))
 
-pub held-h-requires : goal.held-h-requires
-held-h-requires c = let long : length c.args.t.accounts ≡ 64 = search (rules, length_mapped) in
-    place_has c.args.t c.requires long Sized (every_sized c.args.t c.requires) (c.loop-i.i - 1) _ (omega arith)
+-- the sum so far
+abbrev so_far : After-held-sum → ℤ
+so_far c = to_z w64 c.loop-i.sum-bits
 
--- what the accounts from i - 1 on hold
-abbrev part : After-held-h → ℤ
-part c = Rule.total Rule.held (drop (c.loop-i.i - 1) (accounts_of c.args.t))
-
-abbrev here : After-held-h → ℤ
-here c = to_z w64 (of_z w64 c.held-h.result) +ℤ to_z w64 c.loop-i.sum-bits
-
-next : (c : After-held-h) → here c ≡ part c
+-- one account more, the same whole
+next : (c : After-held-sum) → (so_far c +ℤ c.held-sum.result) +ℤ rest c ≡ Rule.total Rule.held (accounts_of c.args.t.now)
 next c =
-    let long : length c.args.t.accounts ≡ 64 = search (rules, length_mapped) in
-    rw (back c.held-h.result c.held-h.type_inv, c.loop-i.invariant.1, c.held-h.ensures) (total_back c.args.t c.requires long c.loop-i.i _ (omega arith) (omega arith))
+    let long : length c.args.t.now.accounts ≡ 64 = search (rules, length_mapped) in
+    +ℤ_assoc (so_far c) c.held-sum.result (rest c)
+    ∙ ap (λ z. so_far c +ℤ z) (ap (λ z. z +ℤ rest c) c.held-sum.ensures ∙ sym (total_step c.args.t.now c.requires long c.loop-i.i _ c.loop-i-test.true))
+    ∙ c.loop-i.invariant
 
-f : (c : After-held-h) → SFits w64 (part c)
-f c =
-    let long : length c.args.t.accounts ≡ 64 = search (rules, length_mapped) in
-    size_fits (part c) (omega (arith, total_small c.args.t c.requires long (c.loop-i.i - 1)))
+fits : (c : After-held-sum) → SFits w64 (so_far c +ℤ c.held-sum.result)
+fits c =
+    let long : length c.args.t.now.accounts ≡ 64 = search (rules, length_mapped) in
+    size_fits (so_far c +ℤ c.held-sum.result)
+    (part_fits (so_far c +ℤ c.held-sum.result) (rest c) _ (next c) (total_small c.args.t.now c.requires long 0) (total_small c.args.t.now c.requires long (suc c.loop-i.i)))
+  where
+    part_fits : (x y z : ℤ) → x +ℤ y ≡ z → nat_abs z ≤ 10 ^ 18 → nat_abs y ≤ 10 ^ 18 → nat_abs x < 2 ^ 63
+    part_fits x y z e h k =
+        let e' : z -ℤ y ≡ x = ap (λ w. w -ℤ y) (sym e) ∙ +ℤ-neg_ℤ_cancel x y in
+        let d : nat_abs x ≤ 10 ^ 18 + 10 ^ 18 = subst (λ w. nat_abs w ≤ 10 ^ 18 + 10 ^ 18) e' (diff_small z y (10 ^ 18) (10 ^ 18) h k) in
+        omega (arith, d)
+
+pub held-sum-requires : goal.held-sum-requires
+held-sum-requires c =
+    let long : length c.args.t.now.accounts ≡ 64 = search (rules, length_mapped) in
+    place_has c.args.t.now c.requires long Sized (every_sized c.args.t.now c.requires) c.loop-i.i _ c.loop-i-test.true
 
 pub overflow_add-sum : goal.overflow_add-sum
-overflow_add-sum c = rw (next (goal.at.overflow_add-sum c).After-held-h) (f (goal.at.overflow_add-sum c).After-held-h)
+overflow_add-sum c = rw (back c.held-sum.result c.held-sum.type_inv) (fits (goal.at.overflow_add-sum c).After-held-sum)
 
 pub loop-i-preserved : goal.loop-i-preserved
-loop-i-preserved c = (omega arith, rw (next (goal.at.loop-i-preserved c).After-held-h, to_z-of_z (f (goal.at.loop-i-preserved c).After-held-h)))
+loop-i-preserved c =
+    rw (back c.held-sum.result c.held-sum.type_inv, to_z-of_z (fits (goal.at.loop-i-preserved c).After-held-sum), add-one) (next (goal.at.loop-i-preserved c).After-held-sum)
 
-pub returns : goal.returns
-returns c = let e : c.loop-i.i ≡ 0 = omega arith in
-    c.loop-i.invariant.1 ∙ ap (λ i. Rule.total Rule.held (drop i (accounts_of c.args.t))) e
+pub returns-clause-total : goal.returns-clause-total
+returns-clause-total c =
+    let long : length c.args.t.now.accounts ≡ 64 = search (rules, length_mapped) in
+    let end : c.loop-i.i ≡ c.args.t.now.count = omega arith in
+    sym (+ℤ_idr (to_z w64 c.loop-i.sum-bits))
+    ∙ ap (λ z. to_z w64 c.loop-i.sum-bits +ℤ z) (sym (ap (λ i. Rule.total Rule.held (drop i (accounts_of c.args.t.now))) end ∙ total_end c.args.t.now c.requires long))
+    ∙ c.loop-i.invariant
+
+pub returns-clause-bounded : goal.returns-clause-bounded
+returns-clause-bounded c =
+    let long : length c.args.t.now.accounts ≡ 64 = search (rules, length_mapped) in
+    rw (returns-clause-total c) (total_small c.args.t.now c.requires long 0)

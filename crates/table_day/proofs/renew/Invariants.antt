@@ -1,10 +1,10 @@
--- Every account's new day, in table order. The loop's invariant: the first i accounts have had theirs, the others stand as they were. Assumes nothing.
-use Prim.Native.Nat.{◌≤◌, ◌-◌}
-use Rattle.table_day.proofs.Days.{Renewed}
+-- The first i accounts have had their new day, the others stand as they were. Assumes nothing.
+use Rattle.std.proofs.Common.{◌≡◌, map}
+use Rattle.rules.specs.Day.{new_day}
+use Rattle.account.specs.View.{to_account}
+use Rattle.table.specs.View.{accounts_of}
+use Rattle.table_day.proofs.Days.{mapped}
 use Rattle.table_day.proofs.renew.Given as goal
 
-abbrev pub invariant-loop-i : goal.invariant-loop-i
-invariant-loop-i l = (l.i ≤ l.n) × (Renewed l.initial.u l.u l.i)
-
-abbrev pub decreases-loop-i : goal.decreases-loop-i
-decreases-loop-i l = l.n - l.i
+abbrev pub invariant-loop-x : goal.invariant-loop-x
+invariant-loop-x l = map to_account l.x-items ≡ mapped new_day l.x-index (accounts_of l.fn.t)
