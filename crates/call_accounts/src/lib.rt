@@ -1,80 +1,88 @@
-// Kinds 01 and 02 as whole calls: the number of the first check that fails with the very same table, or 0 with an account more.
+// Kinds 01 and 02: an account opened after the others. A refusal leaves the very same table.
 #![tactic(auto)]
 
-ghost use Rattle.std.specs.Prelude.{[], ◌∷◌, ◌++◌, ◌<◌};
+ghost use Rattle.std.specs.Prelude.{◌≡◌, [], ◌∷◌, ◌++◌, ◌<◌, OnOk};
 ghost use Rattle.rules.specs.Command.{Bank, Branch};
+ghost use Rattle.rules.specs.Machine as Machine;
+ghost use Rattle.refusal.specs.Answer.{answer_of};
 ghost use Rattle.account.specs.View.{to_account};
-ghost use Rattle.table.specs.View.{accounts_of};
-ghost use Rattle.table.specs.Promise.{Good, Called};
-ghost use Rattle.table.specs.Promise.{Holds};
+ghost use Rattle.table.specs.View.{accounts_of, machine_of};
+ghost use Rattle.table.specs.Promise.{Good, Calls, Holds, call};
 
-use account::{Account, Owner, is_bank, opened};
-use rules::{first, is_code, is_method};
-use table::{Reply, Table, place, slot};
+use account::Account;
+use refusal::{Refusal, check};
+use rules::{is_code, is_method};
+use table::Table;
 
-// The table with an account more.
-fn joined(t: Table, x: Account) -> Table
-    requires { (Good t) × (t.count < 64) }
-    ensures { Holds t result (accounts_of t ++ (to_account x ∷ [])) }
+// An account after the last.
+fn join(t: &mut Table, x: Account)
+    requires { (Good t.old) × (t.old.count < 64) }
+    ensures { Holds t.old t.new (accounts_of t.old ++ (to_account x ∷ [])) }
 {
     let n = t.count;
-    let mut u = t;
-    u.codes[n] = x.code;
-    u.accounts[n] = x;
-    u.count = n + 1;
-    u
+    t.codes[n] = x.code;
+    t.accounts[n] = x;
+    t.count = n + 1;
 }
 
-pub fn bank_open(t: Table, code: u32) -> Reply
-    requires { Good t }
-    ensures { Called (Bank code) t result }
+// The checks of kind 01.
+#[tactic(auto, unfolding(rules::specs::Machine::first_failure, rules::specs::Machine::checks, rules::specs::Machine::answer, rules::specs::Command::well_formed, table::specs::Promise::call, table::specs::View::machine_of))]
+fn bank_checks(t: &Table, code: u32) -> Result<(), Refusal>
+    requires { Good t.now }
+    ensures says { answer_of result ≡ Machine.answer (machine_of t.now) (call (Bank code)) }
+    ensures room { OnOk result (t.now.count < 64) }
 {
-    let n = t.count;
-    let known = place(&t.codes, n, code) < n;
-    let a = first(is_code(code), 1, first(!known, 2, first(n < 64, 3, 0)));
-    if a != 0 {
-        return Reply {
-            answer: a,
-            table: t,
-        };
-    }
-    let x = opened(code, Owner::Bank, 0, 0);
-    let u = joined(t, x);
-    Reply {
-        answer: 0,
-        table: u,
-    }
+    check(is_code(code), Refusal::IllFormed)?;
+    check(t.find(code).is_none(), Refusal::CodeTaken)?;
+    check(t.has_place(), Refusal::TableFull)
 }
 
-pub fn branch_open(t: Table, code: u32, owner: u32, ltk_method: u8, lpo_method: u8) -> Reply
-    requires { Good t }
-    ensures { Called (Branch code owner ltk_method lpo_method) t result }
+#[tactic(auto, using(table::proofs::Called::declined, crate::proofs::Joins::joined), unfolding(rules::specs::Machine::effect, table::specs::View::machine_of, account::specs::View::to_owner))]
+pub fn bank_open(t: &mut Table, code: u32) -> Result<(), Refusal>
+    requires { Good t.old }
+    ensures { Calls (Bank code) t.old result t.new }
 {
-    let n = t.count;
+    bank_checks(t, code)?;
+    join(t, Account::opened(code, None, 0, 0));
+    Ok(())
+}
+
+// The checks of kind 02.
+#[tactic(auto, unfolding(rules::specs::Machine::first_failure, rules::specs::Machine::checks, rules::specs::Machine::answer, rules::specs::Command::well_formed, table::specs::Promise::call, table::specs::View::machine_of))]
+fn branch_checks(
+    t: &Table,
+    code: u32,
+    owner: u32,
+    ltk_method: u8,
+    lpo_method: u8,
+) -> Result<(), Refusal>
+    requires { Good t.now }
+    ensures says { answer_of result ≡ Machine.answer (machine_of t.now) (call (Branch code owner ltk_method lpo_method)) }
+    ensures room { OnOk result (t.now.count < 64) }
+{
     let formed = is_code(code) & is_code(owner) & is_method(ltk_method) & is_method(lpo_method);
-    let known = place(&t.codes, n, code) < n;
-    let i = place(&t.codes, n, owner);
-    let j = slot(i);
-    let b = t.accounts[j];
-    let a = first(
-        formed,
-        1,
-        first(
-            !known,
-            2,
-            first(i < n, 4, first(is_bank(b), 5, first(n < 64, 3, 0))),
-        ),
+    check(formed, Refusal::IllFormed)?;
+    check(t.find(code).is_none(), Refusal::CodeTaken)?;
+    let bank = t.find(owner).ok_or(Refusal::Unknown)?;
+    check(t.accounts[bank].is_bank(), Refusal::NoBank)?;
+    check(t.has_place(), Refusal::TableFull)
+}
+
+#[tactic(auto, using(table::proofs::Called::declined, crate::proofs::Joins::joined), unfolding(rules::specs::Machine::effect, table::specs::View::machine_of, account::specs::View::to_owner))]
+pub fn branch_open(
+    t: &mut Table,
+    code: u32,
+    owner: u32,
+    ltk_method: u8,
+    lpo_method: u8,
+) -> Result<(), Refusal>
+    requires { Good t.old }
+    ensures { Calls (Branch code owner ltk_method lpo_method) t.old result t.new }
+{
+    branch_checks(t, code, owner, ltk_method, lpo_method)?;
+    join(
+        t,
+        Account::opened(code, Some(owner), ltk_method, lpo_method),
     );
-    if a != 0 {
-        return Reply {
-            answer: a,
-            table: t,
-        };
-    }
-    let x = opened(code, Owner::Branch(owner), ltk_method, lpo_method);
-    let u = joined(t, x);
-    Reply {
-        answer: 0,
-        table: u,
-    }
+    Ok(())
 }

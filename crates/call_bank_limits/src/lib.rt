@@ -1,52 +1,31 @@
-// Kind 05: the number of the first check that fails with the very same table, or 0 with a bank's limits changed. As a whole call, and as the account that is
-// to be stored, for who owns the table.
+// Kind 05: a bank's limits changed. A refusal leaves the very same table.
 #![tactic(auto)]
 
+ghost use Rattle.std.specs.Prelude.{◌≡◌, ◌&&◌};
+ghost use Rattle.std.specs.Int.Signed.{non_neg};
+ghost use Rattle.amount.specs.Amount.{is_limit};
 ghost use Rattle.rules.specs.Command.{BankLimits};
-ghost use Rattle.table.specs.Promise.{Good, Called, CalledAt};
+ghost use Rattle.table.specs.Promise.{Good, Calls};
 
-use account::{Limit, with_limits};
+use account::Limit;
 use amount::is_limit;
 use bank_checks::bank_checks;
-use table::{Amended, Reply, Table, place, slot};
+use refusal::Refusal;
+use table::Table;
 
-// The account.
-pub fn bank_limited(t: Table, code: u32, ltk: i64, lpo: i64) -> Amended
-    requires { Good t }
-    ensures { CalledAt (BankLimits code ltk lpo) t result }
+// Whether a bank's limits are in range.
+fn in_range(ltk: i64, lpo: i64) -> bool
+    ensures { result ≡ (non_neg ltk && is_limit ltk && is_limit lpo) }
 {
-    let n = t.count;
-    let i = place(&t.codes, n, code);
-    let j = slot(i);
-    let x = t.accounts[j];
-    let in_range = (0 <= ltk) & is_limit(ltk) & is_limit(lpo);
-    let a = bank_checks(code, i < n, x, 6, in_range);
-    if a != 0 {
-        return Amended {
-            answer: a,
-            place: j,
-            account: x,
-        };
-    }
-    let y = with_limits(x, Limit::Value(ltk), Limit::Value(lpo));
-    Amended {
-        answer: 0,
-        place: j,
-        account: y,
-    }
+    0 <= ltk && is_limit(ltk) && is_limit(lpo)
 }
 
-// The whole call.
-pub fn bank_limits(mut t: Table, code: u32, ltk: i64, lpo: i64) -> Reply
-    requires { Good t }
-    ensures { Called (BankLimits code ltk lpo) t result }
+// A change of a bank's limits.
+pub fn bank_limits(t: &mut Table, code: u32, ltk: i64, lpo: i64) -> Result<(), Refusal>
+    requires { Good t.old }
+    ensures { Calls (BankLimits code ltk lpo) t.old result t.new }
 {
-    let a = bank_limited(t, code, ltk, lpo);
-    let j = a.place;
-    let x = a.account;
-    t.accounts[j] = x;
-    Reply {
-        answer: a.answer,
-        table: t,
-    }
+    let place = bank_checks(t, code, in_range(ltk, lpo), Refusal::OutOfRange)?;
+    t.accounts[place] = t.accounts[place].with_limits(Limit::Value(ltk), Limit::Value(lpo));
+    Ok(())
 }

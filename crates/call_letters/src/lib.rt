@@ -1,109 +1,41 @@
-// Kinds 0c and 13: the number of the first check that fails with the very same table, or 0 with an account's letters set anew, or a bank marked. As whole
-// calls, and as the account that is to be stored, for who owns the table.
-#![tactic(auto)]
+// Kinds 0c and 13: an account's letters set anew, and a bank marked. A refusal leaves the very same table.
+#![tactic(auto, using(rules::proofs::Checks::refused_keeps), unfolding(bank_checks::specs::Parts::bank_call_checks, rules::specs::Machine::first_failure, rules::specs::Machine::checks, rules::specs::Machine::answer, rules::specs::Command::well_formed, table::specs::Promise::call, table::specs::View::machine_of))]
 
 ghost use Rattle.std.specs.Prelude.{◌≡◌};
 ghost use Rattle.rules.specs.Command.{Letters, Mark, some?};
 ghost use Rattle.table.specs.View.{accounts_of};
-ghost use Rattle.table.specs.Promise.{Good, Called, CalledAt};
+ghost use Rattle.table.specs.Promise.{Good, Calls};
 
-use account::{with_letters, with_mark};
 use bank_checks::bank_checks;
-use rules::{first, is_code, is_letters};
-use table::{Amended, Reply, Table, place, slot};
-
-// The account with its letters.
-pub fn lettered(t: Table, code: u32, letters: u8) -> Amended
-    requires { Good t }
-    ensures { CalledAt (Letters code letters) t result }
-{
-    let n = t.count;
-    let i = place(&t.codes, n, code);
-    let j = slot(i);
-    let x = t.accounts[j];
-    let formed = is_code(code) & is_letters(letters);
-    let a = first(formed, 1, first(i < n, 4, 0));
-    if a != 0 {
-        return Amended {
-            answer: a,
-            place: j,
-            account: x,
-        };
-    }
-    let y = with_letters(x, letters);
-    Amended {
-        answer: 0,
-        place: j,
-        account: y,
-    }
-}
+use refusal::{Refusal, check};
+use rules::{is_code, is_letters};
+use table::Table;
 
 // Letters.
-pub fn set_letters(mut t: Table, code: u32, letters: u8) -> Reply
-    requires { Good t }
-    ensures { Called (Letters code letters) t result }
+pub fn set_letters(t: &mut Table, code: u32, letters: u8) -> Result<(), Refusal>
+    requires { Good t.old }
+    ensures { Calls (Letters code letters) t.old result t.new }
 {
-    let a = lettered(t, code, letters);
-    let j = a.place;
-    let x = a.account;
-    t.accounts[j] = x;
-    Reply {
-        answer: a.answer,
-        table: t,
-    }
+    check(is_code(code) && is_letters(letters), Refusal::IllFormed)?;
+    let place = t.find(code).ok_or(Refusal::Unknown)?;
+    t.accounts[place] = t.accounts[place].with_letters(letters);
+    Ok(())
 }
 
 // Whether a bank is marked.
-fn has_central(t: Table) -> bool
-    requires { Good t }
-    ensures { result ≡ some? (λ x. x.marked) (accounts_of t) }
+fn has_central(t: &Table) -> bool
+    requires { Good t.now }
+    ensures { result ≡ some? (λ x. x.marked) (accounts_of t.now) }
 {
-    let mut any = false;
-    let mut i: usize = 0;
-    while i < t.count {
-        let x = t.accounts[i];
-        any = any | x.marked;
-        i += 1;
-    }
-    any
-}
-
-// The bank with its mark.
-pub fn bank_marked(t: Table, code: u32) -> Amended
-    requires { Good t }
-    ensures { CalledAt (Mark code) t result }
-{
-    let n = t.count;
-    let i = place(&t.codes, n, code);
-    let j = slot(i);
-    let x = t.accounts[j];
-    let a = bank_checks(code, i < n, x, 26, !has_central(t));
-    if a != 0 {
-        return Amended {
-            answer: a,
-            place: j,
-            account: x,
-        };
-    }
-    let y = with_mark(x);
-    Amended {
-        answer: 0,
-        place: j,
-        account: y,
-    }
+    t.accounts[..t.count].iter().any(|x| x.marked)
 }
 
 // A mark.
-pub fn mark_bank(mut t: Table, code: u32) -> Reply
-    requires { Good t }
-    ensures { Called (Mark code) t result }
+pub fn mark_bank(t: &mut Table, code: u32) -> Result<(), Refusal>
+    requires { Good t.old }
+    ensures { Calls (Mark code) t.old result t.new }
 {
-    let a = bank_marked(t, code);
-    let j = a.place;
-    let x = a.account;
-    t.accounts[j] = x;
-    Reply {
-        answer: a.answer,
-        table: t,
-    }
+    let place = bank_checks(t, code, !has_central(t), Refusal::MarkTaken)?;
+    t.accounts[place] = t.accounts[place].with_mark();
+    Ok(())
 }

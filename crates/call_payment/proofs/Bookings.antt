@@ -17,14 +17,15 @@ use Rattle.rules.specs.Payment.{is_credit, payer, payee, out_turnover, in_turnov
 use Rattle.rules.proofs.Ledger.{tame_raised, keeps_book}
 use Rattle.rules.proofs.Lists.{at_keeps}
 use Rattle.account.specs.declared.Account.{Account}
-use Rattle.account.specs.View.{to_account, turnover_of}
+use Rattle.account.specs.View.{to_account}
 use Rattle.table.specs.declared.Table.{Table}
 use Rattle.table.specs.Promise.{Good}
 use Rattle.table.specs.View.{accounts_of}
 use Rattle.table.proofs.Stored.{Stored, stored_at, stored_room, stored_one}
 use Rattle.payment_booking.specs.Share.{share}
 use Rattle.payment_booking.proofs.Laws.{share_most}
-use Rattle.call_payment.proofs.Parties.{Party}
+use Rattle.payment_parties.specs.declared.Party as Place
+use Rattle.payment_parties.specs.Finding.{PartyAt}
 
 -- ---- the machine's booking
 
@@ -54,37 +55,30 @@ book_is k n c xs =
     (at_keeps (bank_of c xs) (raised k n) (tame_raised k n).code_kept (λ x. x.owner) (tame_raised k n).owner_kept c xs)
     ∙ book_for_lem (at c xs).owner k n c xs
 
-room_of : (k : Turnover) (x : Rule.Turnovers) (n : ℕ) → ((m : ℕ) → turnover (turnover_of m) x + n < 2 ^ 64) → turnover k x + n < 2 ^ 64
-unfolding turnover_of
-room_of ICDT x n h = h 0
-room_of RCDT x n h = h 1
-room_of IDDT x n h = h 2
-room_of RDDT x n h = h 3
-
--- ---- the table's: of the party at i with its bank at k, in accounts xs whose owners are still the table's
+-- ---- the table's: of a party and its bank, in accounts xs whose owners are still the table's
 
 module _ (t : Table) (g : Good t) {arr : List Account} {b : ℕ} {xs : List Rule.Account} (s : Stored t arr b xs) (low : b ≤ 3 * 10 ^ 17)
-    {c i k : ℕ} (p : Party t c i k) (owner : (at c xs).owner ≡ (at c (accounts_of t)).owner) (kind : Turnover) (d : Account) where
+    {c : ℕ} {f : Place.Party} (p : PartyAt t c f) (owner : (at c xs).owner ≡ (at c (accounts_of t)).owner) (kind : Turnover) (d : Account) where
   same_bank : bank_of c (accounts_of t) ≡ bank_of c xs
   unfolding bank_of
   same_bank = ap (λ o. bank_or o c) (sym owner)
 
-  pub bank_room : (n : ℕ) → n ≤ 10 ^ 15 → turnover kind (to_account (get_or arr k d)).turnovers + n < 2 ^ 64
-  bank_room n few = room_of kind _ n (λ m. stored_room t g s (bank_of c (accounts_of t)) k d p.bank_place_lem p.bank_below m n (omega arith) few)
+  pub bank_room : (n : ℕ) → n ≤ 10 ^ 15 → turnover kind (to_account (get_or arr f.bank d)).turnovers + n < 2 ^ 64
+  bank_room n few = stored_room t g s (bank_of c (accounts_of t)) f.bank d p.bank.place p.bank.below kind n (omega arith) few
 
-  module _ (n : ℕ) (few : n ≤ 10 ^ 15) (y : Account) (e : to_account y ≡ raised kind n (to_account (get_or arr k d))) where
-    bank_stored : Stored t (set arr k y) (b + 10 ^ 15) (adjust (bank_of c xs) (raised kind n) xs)
-    bank_stored = rw (← same_bank) (stored_one t g s (bank_of c (accounts_of t)) k d p.bank_place_lem p.bank_below kind n y few e)
+  module _ (n : ℕ) (few : n ≤ 10 ^ 15) (y : Account) (e : to_account y ≡ raised kind n (to_account (get_or arr f.bank d))) where
+    bank_stored : Stored t (set arr f.bank y) (b + 10 ^ 15) (adjust (bank_of c xs) (raised kind n) xs)
+    bank_stored = rw (← same_bank) (stored_one t g s (bank_of c (accounts_of t)) f.bank d p.bank.place p.bank.below kind n y few e)
 
-    pub own_room : turnover kind (to_account (get_or (set arr k y) i d)).turnovers + n < 2 ^ 64
-    own_room = room_of kind _ n (λ m. stored_room t g bank_stored c i d p.place p.below m n (omega arith) few)
+    pub own_room : turnover kind (to_account (get_or (set arr f.bank y) f.account d)).turnovers + n < 2 ^ 64
+    own_room = stored_room t g bank_stored c f.account d p.own.place p.own.below kind n (omega arith) few
 
-    pub own_stored : (z : Account) → to_account z ≡ raised kind (share (to_account (get_or (set arr k y) i d)) n) (to_account (get_or (set arr k y) i d))
-        → Stored t (set (set arr k y) i z) ((b + 10 ^ 15) + 10 ^ 15) (book_party kind n c xs)
-    own_stored z f =
-        subst (Stored t (set (set arr k y) i z) ((b + 10 ^ 15) + 10 ^ 15)) (book_is kind n c xs)
-        (subst (λ x. Stored t (set (set arr k y) i z) ((b + 10 ^ 15) + 10 ^ 15) (adjust c (raised kind (share x n)) (adjust (bank_of c xs) (raised kind n) xs))) (stored_at t g bank_stored c i d p.place p.below)
-        (stored_one t g bank_stored c i d p.place p.below kind (share (to_account (get_or (set arr k y) i d)) n) z (omega (arith, share_most (to_account (get_or (set arr k y) i d)) n)) f))
+    pub own_stored : (z : Account) → to_account z ≡ raised kind (share (to_account (get_or (set arr f.bank y) f.account d)) n) (to_account (get_or (set arr f.bank y) f.account d))
+        → Stored t (set (set arr f.bank y) f.account z) ((b + 10 ^ 15) + 10 ^ 15) (book_party kind n c xs)
+    own_stored z e2 =
+        subst (Stored t (set (set arr f.bank y) f.account z) ((b + 10 ^ 15) + 10 ^ 15)) (book_is kind n c xs)
+        (subst (λ x. Stored t (set (set arr f.bank y) f.account z) ((b + 10 ^ 15) + 10 ^ 15) (adjust c (raised kind (share x n)) (adjust (bank_of c xs) (raised kind n) xs))) (stored_at t g bank_stored c f.account d p.own.place p.own.below)
+        (stored_one t g bank_stored c f.account d p.own.place p.own.below kind (share (to_account (get_or (set arr f.bank y) f.account d)) n) z (omega (arith, share_most (to_account (get_or (set arr f.bank y) f.account d)) n)) e2))
 
 -- ---- both sides
 

@@ -1,65 +1,51 @@
-// A payment as a whole call: all its checks in order, and what is booked at both sides.
+// A payment as a whole call: all its checks in order, and what is booked at both sides. A refusal leaves the very same table.
 #![tactic(auto)]
 
-ghost use Rattle.std.specs.Prelude.{◌≡◌, true, ◌++◌, nat_abs};
-ghost use Rattle.rules.specs.Command as Command;
-ghost use Rattle.rules.specs.Invariant.{Sized};
-ghost use Rattle.rules.specs.Machine.{first_failure};
-ghost use Rattle.rules.specs.Payment as Payment;
-ghost use Rattle.account.specs.View.{to_account};
-ghost use Rattle.table.specs.Promise.{Good, Called};
-ghost use Rattle.payment_checks.specs.Checks.{early_checks, party_checks};
+ghost use Rattle.std.specs.Prelude.{◌≡◌, IfOk, OnOk, T};
+ghost use Rattle.amount.specs.Amount.{is_amount};
+ghost use Rattle.rules.specs.Command.{Payment};
+ghost use Rattle.rules.specs.Machine.{answer};
+ghost use Rattle.refusal.specs.Answer.{answer_of};
+ghost use Rattle.table.specs.Promise.{Good, Calls, call};
+ghost use Rattle.table.specs.View.{machine_of};
+ghost use Rattle.payment_parties.specs.Finding.{PartiesAt};
 
-use account::Account;
-use account_booking::amount_of;
-use payment_booking::{bank_in, bank_out, own_in, own_out};
+use account_booking::{Side, amount_of};
+use payment_booking::{bank_booked, own_booked};
 use payment_checks::{early, late};
-use payment_parties::{Transfer, bank_slot, find_parties};
-use table::{Reply, Table};
+use payment_parties::{Parties, Transfer, find_parties};
+use refusal::Refusal;
+use table::Table;
 
-// All of them in order, of the payer x and its bank b, the payee y and its bank d: these are looked at only where both parties are known.
-pub fn decide(p: Transfer, known: bool, x: Account, b: Account, y: Account, d: Account) -> u64
-    requires { known ≡ true → (Sized (to_account x)) × (Sized (to_account b)) × (Sized (to_account y)) × (Sized (to_account d)) }
-    ensures { result ≡ first_failure (early_checks p.way p.sender p.receiver p.amount known ++ party_checks (Payment.is_credit p.way) (nat_abs p.amount) (to_account x) (to_account b) (to_account y) (to_account d)) }
+// All the checks in order, and where the parties stand: their accounts are looked at only where both are known.
+#[tactic(auto, using(crate::proofs::Parties::found_sized))]
+pub fn decide(t: &Table, p: Transfer) -> Result<Parties, Refusal>
+    requires { Good t.now }
+    ensures says { answer_of result ≡ answer (machine_of t.now) (call (Payment p.way p.sender p.receiver p.amount)) }
+    ensures parties { IfOk result (PartiesAt t.now p) }
+    ensures amount { OnOk result (T (is_amount p.amount)) }
 {
-    let e = early(p.way, p.sender, p.receiver, p.amount, known);
-    if e != 0 {
-        return e;
-    }
-    late(p.way == 0, amount_of(p.amount), x, b, y, d)
+    let parties = early(p, find_parties(t, p))?;
+    let x = t.accounts[parties.payer.account];
+    let b = t.accounts[parties.payer.bank];
+    let y = t.accounts[parties.payee.account];
+    let d = t.accounts[parties.payee.bank];
+    late(p.is_credit(), amount_of(p.amount), x, b, y, d)?;
+    Ok(parties)
 }
 
 // Each account is read again before it is stored: two of the four may be one, as where both parties have one bank.
-pub fn pay(mut t: Table, way: u8, sender: u32, receiver: u32, amount: i64) -> Reply
-    requires { Good t }
-    ensures { Called (Command.Payment way sender receiver amount) t result }
+#[tactic(auto, using(table::proofs::Called::declined))]
+pub fn pay(t: &mut Table, p: Transfer) -> Result<(), Refusal>
+    requires { Good t.old }
+    ensures { Calls (Payment p.way p.sender p.receiver p.amount) t.old result t.new }
 {
-    let p = Transfer {
-        way: way,
-        sender: sender,
-        receiver: receiver,
-        amount: amount,
-    };
-    let found = find_parties(&t.codes, t.count, p);
-    let i = found.payer;
-    let j = found.payee;
-    let x = t.accounts[i];
-    let y = t.accounts[j];
-    let k = bank_slot(&t.codes, t.count, i, x);
-    let l = bank_slot(&t.codes, t.count, j, y);
-    let a = decide(p, found.known, x, t.accounts[k], y, t.accounts[l]);
-    if a != 0 {
-        return Reply {
-            answer: a,
-            table: t,
-        };
-    }
-    t.accounts[k] = bank_out(t.accounts[k], p);
-    t.accounts[i] = own_out(t.accounts[i], p);
-    t.accounts[l] = bank_in(t.accounts[l], p);
-    t.accounts[j] = own_in(t.accounts[j], p);
-    Reply {
-        answer: 0,
-        table: t,
-    }
+    let parties = decide(t, p)?;
+    let payer = parties.payer;
+    let payee = parties.payee;
+    t.accounts[payer.bank] = bank_booked(t.accounts[payer.bank], Side::Payer, p);
+    t.accounts[payer.account] = own_booked(t.accounts[payer.account], Side::Payer, p);
+    t.accounts[payee.bank] = bank_booked(t.accounts[payee.bank], Side::Payee, p);
+    t.accounts[payee.account] = own_booked(t.accounts[payee.account], Side::Payee, p);
+    Ok(())
 }

@@ -1,15 +1,14 @@
 // Where the parties of a payment stand in the table, and their banks.
 #![tactic(auto)]
 
-ghost use Rattle.std.specs.Prelude.{◌≡◌, cond, ◌≤◌, length, take};
+ghost use Rattle.std.specs.Prelude.{◌≡◌, ◌&&◌, false, MatchOption};
+ghost use Rattle.rules.specs.Account.{known};
 ghost use Rattle.rules.specs.Payment as Payment;
-ghost use Rattle.account.specs.View.{to_account};
-ghost use Rattle.table.specs.Promise.{Slot};
-ghost use Rattle.table.specs.View.{place_of};
-ghost use Rattle.payment_parties.specs.Finding.{bank_place, FoundIs};
+ghost use Rattle.table.specs.Promise.{Good};
+ghost use Rattle.table.specs.View.{accounts_of};
+ghost use Rattle.payment_parties.specs.Finding.{PartyAt, PartiesAt};
 
-use account::{Account, Owner};
-use table::{place, slot};
+use table::Table;
 
 // A payment: 0 credit or 1 debit, the codes of both, the amount.
 #[derive(Clone, Copy)]
@@ -20,48 +19,71 @@ pub struct Transfer {
     pub amount: i64,
 }
 
-// Whether both parties are in the table, and their places in the array: any where one is not.
+impl Transfer {
+    #[tactic(auto, unfolding(rules::specs::Payment::is_credit))]
+    pub fn is_credit(self) -> bool
+        ensures { result ≡ Payment.is_credit self.way }
+    {
+        self.way == 0
+    }
+
+    #[tactic(auto, unfolding(rules::specs::Payment::payer))]
+    pub fn payer(self) -> u32
+        ensures { result ≡ Payment.payer (Payment.is_credit self.way) self.sender self.receiver }
+    {
+        if self.is_credit() {
+            self.sender
+        } else {
+            self.receiver
+        }
+    }
+
+    #[tactic(auto, unfolding(rules::specs::Payment::payee))]
+    pub fn payee(self) -> u32
+        ensures { result ≡ Payment.payee (Payment.is_credit self.way) self.sender self.receiver }
+    {
+        if self.is_credit() {
+            self.receiver
+        } else {
+            self.sender
+        }
+    }
+}
+
+// The places in the table of a party's account and of its bank's: a bank is its own.
 #[derive(Clone, Copy)]
-pub struct Found {
-    pub known: bool,
-    pub payer: usize,
-    pub payee: usize,
+pub struct Party {
+    pub account: usize,
+    pub bank: usize,
 }
 
-// The place among the first n of one code in a credit, of the other in a debit.
-fn party_place(codes: &[u32; 64], n: usize, way: u8, in_credit: u32, in_debit: u32) -> usize
-    requires { (n ≤ 64) × (length codes.now ≡ 64) }
-    ensures { result ≡ place_of (cond (Payment.is_credit way) in_credit in_debit) (take n codes.now) }
-{
-    if way == 0 {
-        place(codes, n, in_credit)
-    } else {
-        place(codes, n, in_debit)
-    }
+#[derive(Clone, Copy)]
+pub struct Parties {
+    pub payer: Party,
+    pub payee: Party,
 }
 
-// Both parties among the first n codes.
-pub fn find_parties(codes: &[u32; 64], n: usize, p: Transfer) -> Found
-    requires { (n ≤ 64) × (length codes.now ≡ 64) }
-    ensures { FoundIs n (take n codes.now) p result }
+// Expanded where it is called: in a payment it is most of the work, and two calls would cost 5 % more instructions.
+#[inline(always)]
+fn find_party(t: &Table, code: u32) -> Option<Party>
+    requires { Good t.now }
+    ensures { MatchOption result (known code (accounts_of t.now) ≡ false) (PartyAt t.now code) }
 {
-    let from = party_place(codes, n, p.way, p.sender, p.receiver);
-    let to = party_place(codes, n, p.way, p.receiver, p.sender);
-    Found {
-        known: (from < n) & (to < n),
-        payer: slot(from),
-        payee: slot(to),
-    }
+    let account = t.find(code)?;
+    let bank = match t.accounts[account].owner {
+        None => account,
+        Some(bank) => t.find(bank)?,
+    };
+    Some(Party { account, bank })
 }
 
-// The place of the bank of the party at place i with the account x.
-pub fn bank_slot(codes: &[u32; 64], n: usize, i: usize, x: Account) -> usize
-    requires { (n ≤ 64) × (length codes.now ≡ 64) }
-    ensures { Slot (bank_place (to_account x).owner i (take n codes.now)) result }
+// None where one of the two is not in the table.
+#[tactic(auto, using(crate::proofs::Banks::both_known))]
+pub fn find_parties(t: &Table, p: Transfer) -> Option<Parties>
+    requires { Good t.now }
+    ensures { MatchOption result ((known p.sender (accounts_of t.now) && known p.receiver (accounts_of t.now)) ≡ false) (PartiesAt t.now p) }
 {
-    let owner = x.owner;
-    match owner {
-        Owner::Bank => slot(i),
-        Owner::Branch(b) => slot(place(codes, n, b)),
-    }
+    let payer = find_party(t, p.payer())?;
+    let payee = find_party(t, p.payee())?;
+    Some(Parties { payer, payee })
 }

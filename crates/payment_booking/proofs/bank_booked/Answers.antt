@@ -3,8 +3,8 @@ use mir.Syntax.{w64}
 use mir.Val.{SFits}
 use mir.Facts.{to_z-of_z}
 use Rattle.rules.specs.Payment.{is_credit}
-use Rattle.payment_booking.proofs.bank_out.Goals.{After-struct_told-1}
-use Rattle.payment_booking.proofs.bank_out.Goals as goal
+use Rattle.payment_booking.proofs.bank_booked.Goals.{After-struct_told-1}
+use Rattle.payment_booking.proofs.bank_booked.Goals as goal
 
 amount-fits : (c : After-struct_told-1) → SFits w64 c.args.p.amount
 amount-fits c = search (rules, c.struct_told-1.given)
@@ -15,9 +15,9 @@ amount_of-requires c = rw (to_z-of_z (amount-fits (goal.at.amount_of-requires c)
 pub raised-requires : goal.raised-requires
 unfolding is_credit
 raised-requires c =
-    (c.out_turnover.ensures.0, rw (c.out_turnover.ensures.1, c.amount_of.ensures.0, to_z-of_z (amount-fits (goal.at.raised-requires c).After-struct_told-1)) c.requires.1)
+    rw (c.turnover.ensures, c.amount_of.ensures.0, to_z-of_z (amount-fits (goal.at.raised-requires c).After-struct_told-1)) c.requires.1
 
 pub returns : goal.returns
 unfolding is_credit
 returns c =
-    rw (c.out_turnover.ensures.1, c.amount_of.ensures.0, to_z-of_z (amount-fits (goal.at.returns c).After-struct_told-1)) at c.raised.ensures
+    rw (c.turnover.ensures, c.amount_of.ensures.0, to_z-of_z (amount-fits (goal.at.returns c).After-struct_told-1)) at c.raised.ensures

@@ -6,10 +6,10 @@ use mir.Val.{SFits}
 use mir.Facts.{to_z-of_z}
 use Rattle.rules.specs.Account.{turnover}
 use Rattle.rules.specs.Payment.{is_credit}
-use Rattle.account.specs.View.{to_account, turnover_of}
+use Rattle.account.specs.View.{to_account, to_turnover}
 use Rattle.payment_booking.proofs.Laws.{share_most}
-use Rattle.payment_booking.proofs.own_out.Goals.{After-struct_told-1}
-use Rattle.payment_booking.proofs.own_out.Goals as goal
+use Rattle.payment_booking.proofs.own_booked.Goals.{After-struct_told-1}
+use Rattle.payment_booking.proofs.own_booked.Goals as goal
 
 amount-fits : (c : After-struct_told-1) → SFits w64 c.args.p.amount
 amount-fits c = search (rules, c.struct_told-1.given)
@@ -20,15 +20,15 @@ amount_of-requires c = rw (to_z-of_z (amount-fits (goal.at.amount_of-requires c)
 pub raised-requires : goal.raised-requires
 unfolding is_credit
 raised-requires c =
-    let room : turnover (turnover_of c.out_turnover.result) (to_account c.args.x).turnovers + c.amount_of.result < 2 ^ 64 =
-    rw (c.out_turnover.ensures.1, c.amount_of.ensures.0, to_z-of_z (amount-fits (goal.at.raised-requires c).After-struct_told-1)) c.requires.1 in
-    (c.out_turnover.ensures.0, omega (arith, share_most (to_account c.args.x) c.amount_of.result, c.own_share.ensures))
+    let room : turnover (to_turnover c.turnover.result) (to_account c.args.x).turnovers + c.amount_of.result < 2 ^ 64 =
+    rw (c.turnover.ensures, c.amount_of.ensures.0, to_z-of_z (amount-fits (goal.at.raised-requires c).After-struct_told-1)) c.requires.1 in
+    omega (arith, share_most (to_account c.args.x) c.amount_of.result, c.own_share.ensures)
 
 pub returns : goal.returns
 unfolding is_credit
 returns c =
     rw (
-      c.out_turnover.ensures.1,
+      c.turnover.ensures,
       c.own_share.ensures,
       c.amount_of.ensures.0,
       to_z-of_z (amount-fits (goal.at.returns c).After-struct_told-1),
