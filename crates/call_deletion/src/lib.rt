@@ -1,84 +1,58 @@
-// Kind 08: the number of the first check that fails with the very same table and book, or 0 with the limit deleted and the message's id in the book. As a whole
-// call, and as the account that is to be stored, for who owns the table.
+// Kind 08: a refusal leaves the very same record, and a deletion that passes all checks clears its limit and puts the message's id in the book.
 #![tactic(auto)]
 
+ghost use Rattle.std.specs.Prelude.{◌≡◌, ◌≤◌, List, ℕ, take};
 ghost use Rattle.octets.specs.Octets.{part};
+ghost use Rattle.rules.specs.Account.{codes, adjust};
 ghost use Rattle.rules.specs.Command.{Deletion};
+ghost use Rattle.rules.specs.Message as Message;
 ghost use Rattle.command.specs.View.{to_header};
-ghost use Rattle.ledger.specs.Promise.{Sound, Settled, SettledAt};
+ghost use Rattle.table.specs.Promise.{Good};
+ghost use Rattle.table.specs.View.{accounts_of};
+ghost use Rattle.ledger.specs.Promise.{SoundLedger, Settles};
 
-use book::add_id;
 use command::{Header, is_header};
-use ledger::{Entered, Noted};
-use message_branches::target_of;
+use ledger::Ledger;
 use message_checks::{header_checks, named_checks};
 use message_fields::named;
-use message_item_checks::test_limit;
+use message_items::Item;
 use message_limits::deleted;
+use refusal::Refusal;
 use table::Table;
 
-// The account. Its id is the first of those beside the command.
-pub fn limit_deleted(
-    t: Table,
-    ids: &mut [u8; 32768],
-    days: &mut [u32; 1024],
-    used: usize,
-    header: Header,
-    id: [u8; 32],
-    accounts: [u8; 160],
-    kind: u8,
-) -> Entered
-    requires { Sound t ids.old days.old used }
-    ensures { SettledAt (Deletion (to_header header id) (part 0 10 accounts) kind) t ids.old days.old used result ids.new days.new }
+// The limit cleared in place. One that has passed the checks is that of an account of the table.
+fn clear(t: &mut Table, header: Header, code: u32, kind: u8)
+    requires { Good t.old }
+    ensures within { t.new.count ≤ 64 }
+    ensures same { take t.new.count t.new.codes ≡ codes (accounts_of t.new) }
+    ensures day { t.new.day ≡ t.old.day }
+    ensures accounts { (id : List ℕ) → accounts_of t.new ≡ adjust code (Message.touch (to_header header id) kind Message.cleared) (accounts_of t.old) }
 {
-    let code = named(&accounts, 0);
-    let f = target_of(t, header.sender, code);
-    let x = f.account;
-    let formed = is_header(header);
-    let mut a = header_checks(formed, f.known, f.head, t.day, ids, used, header, &id);
-    if a == 0 {
-        a = named_checks(test_limit(x, f.named, kind, header), used);
-    }
-    if a != 0 {
-        return Entered {
-            answer: a,
-            used: used,
-            place: f.place,
-            account: x,
-        };
-    }
-    let y = deleted(x, kind, header);
-    add_id(ids, days, used, &id, t.day);
-    let more = used + 1;
-    Entered {
-        answer: 0,
-        used: more,
-        place: f.place,
-        account: y,
+    if let Some(place) = t.find(code) {
+        t.accounts[place] = deleted(t.accounts[place], kind, header);
     }
 }
 
-// The whole call.
+// The account id is the first of those beside the command. A deletion has no value to test.
+#[tactic(auto, using(ledger::proofs::Laws::good_table))]
 pub fn deletion(
-    mut t: Table,
-    ids: &mut [u8; 32768],
-    days: &mut [u32; 1024],
-    used: usize,
+    l: &mut Ledger,
     header: Header,
     id: [u8; 32],
     accounts: [u8; 160],
     kind: u8,
-) -> Noted
-    requires { Sound t ids.old days.old used }
-    ensures { Settled (Deletion (to_header header id) (part 0 10 accounts) kind) t ids.old days.old used result ids.new days.new }
+) -> Result<(), Refusal>
+    requires { SoundLedger l.old }
+    ensures { Settles (Deletion (to_header header id) (part 0 10 accounts) kind) l.old result l.new }
 {
-    let a = limit_deleted(t, ids, days, used, header, id, accounts, kind);
-    let j = a.place;
-    let x = a.account;
-    t.accounts[j] = x;
-    Noted {
-        answer: a.answer,
-        table: t,
-        used: a.used,
-    }
+    header_checks(l, is_header(header), header, &id)?;
+    let item = Item {
+        code: named(&accounts, 0),
+        kind,
+        value: 0,
+    };
+    named_checks(l, header, &[item])?;
+    l.book.add(&id, l.table.day);
+    clear(&mut l.table, header, item.code, kind);
+    Ok(())
 }

@@ -1,86 +1,78 @@
 // The query of limits, kind 09: its checks, its report, and its id in the book. The table stays as it is.
 #![tactic(auto)]
 
-ghost use Rattle.std.specs.Prelude.{◌≡◌, [], ◌∷◌, ◌*◌, ◌≤◌, length, take};
-ghost use Rattle.rules.specs.Account.{among};
+ghost use Rattle.std.specs.Prelude.{◌≡◌, [], ◌∷◌, ◌≤◌, ◌<◌, IfOk};
+ghost use Rattle.rules.specs.Account.{known};
 ghost use Rattle.rules.specs.Command.{Query, some?};
+ghost use Rattle.rules.specs.Machine.{answer};
 ghost use Rattle.rules.specs.Message as Message;
+ghost use Rattle.refusal.specs.Answer.{answer_of};
 ghost use Rattle.command.specs.View.{to_header, ids_from};
-ghost use Rattle.ledger.specs.Promise.{Sound, Played};
+ghost use Rattle.table.specs.Promise.{Good};
+ghost use Rattle.table.specs.View.{accounts_of};
+ghost use Rattle.ledger.specs.View.{ledger_view, lent};
+ghost use Rattle.ledger.specs.Promise.{SoundLedger, Reports};
 
-use book::{add_id, has_id};
 use command::{Header, is_header};
+use ledger::Ledger;
 use message_fields::named;
-use message_inquiry::{Asked, header_answer};
+use message_inquiry::header_checks;
+use refusal::{Refusal, check};
 use report_blocks::put_report;
-use rules::{first, is_count};
-use table::{Table, place};
+use rules::is_count;
+use table::Table;
 
 // ---- the checks
 
-// Whether one of n account ids names one of the first `count` codes.
-fn any_known(codes: &[u32; 64], count: usize, accounts: &[u8], n: usize) -> bool
-    requires { (count ≤ 64) × (length codes.now ≡ 64) × (n * 10 ≤ length accounts.now) }
-    ensures { result ≡ some? (λ i. among (Message.named i) (take count codes.now)) (ids_from 0 n accounts.now) }
+// Whether one of n account ids names an account of the table.
+fn any_known(t: &Table, accounts: &[u8; 160], n: usize) -> bool
+    requires { (Good t.now) × (n ≤ 16) }
+    ensures { result ≡ some? (λ i. known (Message.named i) (accounts_of t.now)) (ids_from 0 n accounts.now) }
 {
-    let mut k: usize = 0;
-    while k < n {
-        let code = named(accounts, k * 10);
-        if place(codes, count, code) < count {
+    for k in 0..n {
+        if let Some(_) = t.find(named(accounts, k * 10)) {
             return true;
         }
-        k += 1;
     }
     false
 }
 
+// The checks of a query with a report buffer of `room` bytes.
+fn query_checks(
+    l: &Ledger,
+    header: Header,
+    id: &[u8; 32],
+    accounts: &[u8; 160],
+    n: usize,
+    room: usize,
+) -> Result<(), Refusal>
+    requires { SoundLedger l.now }
+    ensures says { answer_of result ≡ answer (ledger_view l.now) (lent room (Query (to_header header id.now) (ids_from 0 n accounts.now))) }
+    ensures ready { IfOk result (λ _. (913 ≤ room) × (n ≤ 16) × (l.now.book.used < 1024)) }
+{
+    let formed = is_header(header) & is_count(n) & (913 <= room);
+    header_checks(l, formed, header, id)?;
+    check(any_known(&l.table, accounts, n), Refusal::NothingFound)?;
+    check(!l.book.is_full(), Refusal::BookFull)
+}
+
 // ---- the call
 
-// A refused query writes nothing; an accepted one writes its report and puts its id into the book. The codes are copied out: an array lent out of the
-// table would have the whole table copied.
+// A refused query writes nothing; an accepted one writes its report and puts its id into the book.
 pub fn query(
-    t: Table,
-    ids: &mut [u8; 32768],
-    days: &mut [u32; 1024],
-    used: usize,
+    l: &mut Ledger,
     header: Header,
     id: [u8; 32],
     accounts: [u8; 160],
     n: usize,
     report: &mut [u8],
-) -> Asked
-    requires { Sound t ids.old days.old used }
-    ensures { Played (Query (to_header header id) (ids_from 0 n accounts) ∷ []) t ids.old days.old used report.old (record { answer = result.answer; table = t; used = result.used; report_len = result.report_len }) ids.new days.new report.new }
+) -> Result<usize, Refusal>
+    requires { SoundLedger l.old }
+    ensures { Reports (Query (to_header header id) (ids_from 0 n accounts) ∷ []) l.old report.old result l.new report.new }
 {
-    let sender = header.sender;
-    let codes = t.codes;
-    let count = t.count;
-    let formed = is_header(header) & is_count(n) & (913 <= report.len());
-    let known = place(&codes, count, sender) < count;
-    let listed = has_id(ids, used, &id);
-    let a = header_answer(formed, known, listed, &id, t.day, header.day);
-    if a != 0 {
-        return Asked {
-            answer: a,
-            used: used,
-            report_len: 0,
-        };
-    }
-    let any = any_known(&codes, count, &accounts, n);
-    let b = first(any, 21, first(used < 1024, 22, 0));
-    if b != 0 {
-        return Asked {
-            answer: b,
-            used: used,
-            report_len: 0,
-        };
-    }
-    let length = put_report(t, sender, accounts, n, report);
-    add_id(ids, days, used, &id, t.day);
-    let more = used + 1;
-    Asked {
-        answer: 0,
-        used: more,
-        report_len: length,
-    }
+    query_checks(l, header, &id, &accounts, n, report.len())?;
+    let length = put_report(&l.table, header.sender, accounts, n, report);
+    let today = l.table.day;
+    l.book.add(&id, today);
+    Ok(length)
 }

@@ -1,74 +1,72 @@
 // The search for accounts by text, kind 0b: its checks, its report, and its id in the book. The table stays as it is.
 #![tactic(auto)]
 
-ghost use Rattle.std.specs.Prelude.{◌≡◌, ◌&&◌, [], ◌∷◌};
+ghost use Rattle.std.specs.Prelude.{◌≡◌, ◌≤◌, ◌<◌, ◌^◌, ◌&&◌, [], ◌∷◌, map, IfOk};
 ghost use Rattle.rules.specs.Command.{Search, is_few};
+ghost use Rattle.rules.specs.Machine.{answer};
+ghost use Rattle.rules.specs.Search.{selects};
+ghost use Rattle.refusal.specs.Answer.{answer_of};
 ghost use Rattle.frame_fields.specs.Conditions.{conditions_in, are_conditions};
 ghost use Rattle.command.specs.View.{to_header};
-ghost use Rattle.ledger.specs.Promise.{Sound, Played};
+ghost use Rattle.search_set.specs.Sets.{set_of};
+ghost use Rattle.table.specs.View.{accounts_of};
+ghost use Rattle.ledger.specs.View.{ledger_view, lent};
+ghost use Rattle.ledger.specs.Promise.{SoundLedger, Reports};
 
-use book::{add_id, has_id};
 use command::{Header, is_header};
 use frame_fields::conditions_end;
-use message_inquiry::{Asked, header_answer};
+use ledger::Ledger;
+use message_inquiry::header_checks;
+use refusal::{Refusal, check};
 use report_search::put_search;
-use rules::{first, is_few};
+use rules::is_few;
 use search_selection::select;
-use table::{Table, place};
 
 // Whether there are 1 to 8 conditions, all well-formed.
+#[tactic(auto, unfolding(rules::specs::Command::is_few))]
 fn conditions_fit(texts: &[u8], n: usize) -> bool
     ensures { result ≡ (is_few n && are_conditions n texts.now) }
 {
-    if !is_few(n) {
-        return false;
-    }
-    conditions_end(texts, 0, n) != 0
+    is_few(n) && conditions_end(texts, 0, n).is_some()
+}
+
+// The checks of a search with a report buffer of `room` bytes; the set of the places of the selected accounts.
+fn search_checks(
+    l: &Ledger,
+    header: Header,
+    id: &[u8; 32],
+    texts: &[u8; 160],
+    n: usize,
+    room: usize,
+) -> Result<u64, Refusal>
+    requires { SoundLedger l.now }
+    ensures says { answer_of result ≡ answer (ledger_view l.now) (lent room (Search (to_header header id.now) (conditions_in n texts.now))) }
+    ensures ready { IfOk result (λ set. (8192 ≤ room) × (l.now.book.used < 1024) × (set < 2 ^ l.now.table.count)) }
+    ensures set { IfOk result (λ set. set ≡ set_of (map (selects (conditions_in n texts.now)) (accounts_of l.now.table))) }
+{
+    let formed = is_header(header) & conditions_fit(texts, n) & (8192 <= room);
+    header_checks(l, formed, header, id)?;
+    let set = select(&l.table, texts, n);
+    check(set != 0, Refusal::NothingFound)?;
+    check(!l.book.is_full(), Refusal::BookFull)?;
+    Ok(set)
 }
 
 // A refused search writes nothing; an accepted one writes its report and puts its id into the book.
 pub fn search(
-    t: Table,
-    ids: &mut [u8; 32768],
-    days: &mut [u32; 1024],
-    used: usize,
+    l: &mut Ledger,
     header: Header,
     id: [u8; 32],
     texts: [u8; 160],
     n: usize,
     report: &mut [u8],
-) -> Asked
-    requires { Sound t ids.old days.old used }
-    ensures { Played (Search (to_header header id) (conditions_in n texts) ∷ []) t ids.old days.old used report.old (record { answer = result.answer; table = t; used = result.used; report_len = result.report_len }) ids.new days.new report.new }
+) -> Result<usize, Refusal>
+    requires { SoundLedger l.old }
+    ensures { Reports (Search (to_header header id) (conditions_in n texts) ∷ []) l.old report.old result l.new report.new }
 {
-    let sender = header.sender;
-    let count = t.count;
-    let formed = is_header(header) & conditions_fit(&texts, n) & (8192 <= report.len());
-    let known = place(&t.codes, count, sender) < count;
-    let listed = has_id(ids, used, &id);
-    let a = header_answer(formed, known, listed, &id, t.day, header.day);
-    if a != 0 {
-        return Asked {
-            answer: a,
-            used: used,
-            report_len: 0,
-        };
-    }
-    let set = select(t, &texts, n);
-    let b = first(set != 0, 21, first(used < 1024, 22, 0));
-    if b != 0 {
-        return Asked {
-            answer: b,
-            used: used,
-            report_len: 0,
-        };
-    }
-    let length = put_search(t, sender, set, report);
-    add_id(ids, days, used, &id, t.day);
-    let more = used + 1;
-    Asked {
-        answer: 0,
-        used: more,
-        report_len: length,
-    }
+    let set = search_checks(l, header, &id, &texts, n, report.len())?;
+    let length = put_search(&l.table, header.sender, set, report);
+    let today = l.table.day;
+    l.book.add(&id, today);
+    Ok(length)
 }

@@ -1,51 +1,46 @@
 -- What a change or a deletion has to show: its answer from the two parts of the checks, and the record after it. Assumes nothing.
-use mathlib.Core.Path.{◌≡◌, sym, ap, ◌∙◌, subst}
-use mathlib.Core.Bool.{Bool}
-use mathlib.Core.List.{List}
-use Prim.Native.Nat.{ℕ, ◌+◌, ◌<◌}
-use native.Mathlib.Omega.{arith}
-use lib.Dec.{T, ltb→lt}
-use lib.ListN.{length, take, drop}
+use Rattle.std.proofs.Common.{arith, ◌≡◌, sym, ◌∙◌, subst, ℕ, ◌+◌, ◌≤◌, ◌<◌, Bool, List, take, drop, Result, Err}
+use lib.Dec.{T}
 use Rattle.rules.specs.Account as Rule
+use Rattle.rules.specs.Account.{codes}
 use Rattle.rules.specs.Command.{Header, Command}
-use Rattle.rules.specs.Machine.{Machine, with_accounts, with_id, checks, has_book_place, effect, answer, first_failure}
+use Rattle.rules.specs.Machine.{with_id, checks, effect, answer, first_failure}
 use Rattle.rules.proofs.Checks.{numbered, early, late}
+use Rattle.refusal.specs.declared.Refusal.{Refusal}
+use Rattle.refusal.specs.Answer.{number}
+use Rattle.refusal.proofs.Numbers.{no_zero}
 use Rattle.table.specs.declared.Table.{Table}
-use Rattle.table.specs.View.{machine_of}
-use Rattle.table.specs.Promise.{Holds}
-use Rattle.book.specs.Entries.{entries_of, Added}
-use Rattle.book.proofs.Laws.{entries_length}
-use Rattle.ledger.specs.View.{view_of, lent}
-use Rattle.ledger.specs.Promise.{Sound, Settled}
-use Rattle.ledger.proofs.Laws.{settled_yes, noted}
-use Rattle.message_checks.specs.Parts.{header_checks}
+use Rattle.table.specs.View.{accounts_of}
+use Rattle.book.specs.Entries.{Added}
+use Rattle.ledger.specs.declared.Ledger.{Ledger}
+use Rattle.ledger.specs.View.{view_of, ledger_view}
+use Rattle.ledger.specs.Promise.{SoundLedger, Settled, Settles}
+use Rattle.ledger.proofs.Laws.{settled_no, settled_yes, noted}
 
-module _ (k : Command) (h : Header) (t : Table) (ids days : List ℕ) (used : ℕ) where
-  -- the commands whose first checks are those of the header
-  abbrev pub Begins : Bool → Type 0
-  Begins formed = take 6 (checks (view_of t ids days used) 0 k) ≡ header_checks formed h (view_of t ids days used)
+module _ (k : Command) (l : Ledger) (g : SoundLedger l) where
+  abbrev pub tests : List (ℕ × Bool)
+  tests = checks (view_of l.table l.book.ids l.book.days l.book.used) 0 k
 
-  pub room : T (has_book_place (view_of t ids days used)) → used < 1024
-  unfolding has_book_place view_of
-  room p = omega (arith, ltb→lt (length (entries_of ids days used)) 1024 p, entries_length ids days used)
-
-  module _ (formed : Bool) (b : Begins formed) (a : ℕ) (e : a ≡ first_failure (header_checks formed h (view_of t ids days used))) where
-    first_six : a ≡ first_failure (take 6 (checks (view_of t ids days used) 0 k))
-    first_six = e ∙ ap first_failure (sym b)
-
-    pub header_fails : ¬ (a ≡ 0) → a ≡ answer (view_of t ids days used) (lent 0 k)
+  module _ {X : Type 0} (n : ℕ) where
+    -- one of the first n checks fails
+    pub refused_first : (r : Result X Refusal) (e : Refusal) → r ≡ Err e → number e ≡ first_failure (take n tests) → Settles k l r l
     unfolding answer
-    header_fails n = early 6 (checks (view_of t ids days used) 0 k) a first_six n
+    refused_first r e q f =
+        subst (λ x. Settles k l x l) (sym q) (settled_no k l.table l.book.ids l.book.days l.book.used g (number e) (early n tests (number e) f (no_zero e)) (no_zero e))
 
-    pub header_passes : a ≡ 0 → (r : ℕ) → r ≡ first_failure (drop 6 (checks (view_of t ids days used) 0 k)) → r ≡ answer (view_of t ids days used) (lent 0 k)
-    unfolding answer header_checks
-    header_passes z r q = q ∙ late 6 (checks (view_of t ids days used) 0 k) (subst (λ cs. T (numbered cs)) (sym b) tt) (sym first_six ∙ z)
+  module _ (n : ℕ) (m : T (numbered (take n tests))) (z : 0 ≡ first_failure (take n tests)) where
+    -- they pass, and one of the others fails
+    pub refused_later : {X : Type 0} (r : Result X Refusal) (e : Refusal) → r ≡ Err e → number e ≡ first_failure (drop n tests) → Settles k l r l
+    unfolding answer
+    refused_later r e q f =
+        subst (λ x. Settles k l x l) (sym q) (settled_no k l.table l.book.ids l.book.days l.book.used g (number e) (f ∙ late n tests m (sym z)) (no_zero e))
 
-  -- the limits are set, and the id is in the book
-  pub taken : Sound t ids days used → (u : Table) (xs : List Rule.Account) (ids' days' : List ℕ) → answer (view_of t ids days used) (lent 0 k) ≡ 0 → used < 1024 → Holds t u xs
-      → Added ids days used h.id t.day ids' days' → with_id h xs (view_of t ids days used) ≡ effect (view_of t ids days used) k
-      → Settled k t ids days used (record { answer = 0; table = u; used = used + 1 }) ids' days'
-  unfolding machine_of with_accounts
-  taken g u xs ids' days' z l p d w =
-      settled_yes k t ids days used g u ids' days' (used + 1) z p.within p.same (omega arith) d.lengths d.behind
-      (noted t u ids days used ids' days' h xs (ap (λ (m : Machine). m.day) p.view) (ap (λ (m : Machine). m.accounts) p.view) d ∙ w)
+    -- all pass: the limits are set, and the id is in the book
+    pub taken : 0 ≡ first_failure (drop n tests) → l.book.used < 1024 → (u : Table) (xs : List Rule.Account) (h : Header) (ids' days' : List ℕ) (used' : ℕ) → u.count ≤ 64 → take u.count u.codes ≡ codes (accounts_of u)
+        → u.day ≡ l.table.day → accounts_of u ≡ xs → Added l.book.ids l.book.days l.book.used h.id l.table.day ids' days' → used' ≡ l.book.used + 1 → with_id h xs (ledger_view l) ≡ effect (ledger_view l) k
+        → Settled k l.table l.book.ids l.book.days l.book.used (record { answer = 0; table = u; used = used' }) ids' days'
+    unfolding answer ledger_view
+    taken f room u xs h ids' days' used' within same day accounts d e w =
+        rw e
+        (settled_yes k l.table l.book.ids l.book.days l.book.used g u ids' days' (l.book.used + 1) (sym (f ∙ late n tests m (sym z))) within same (omega (arith, room)) d.lengths d.behind
+        (noted l.table u l.book.ids l.book.days l.book.used ids' days' h xs day accounts d ∙ w))

@@ -1,61 +1,44 @@
 // The checks of kinds 07 and 08: of the header, and of the limits that the message names.
 #![tactic(auto)]
 
-ghost use Rattle.std.specs.Prelude.{◌≡◌, not, List, [], ◌∷◌, ℕ, ◌*◌, ◌≤◌, length};
+ghost use Rattle.std.specs.Prelude.{◌≡◌, ◌<◌, true, IfOk, length};
 ghost use Rattle.rules.specs.Machine.{first_failure};
-ghost use Rattle.rules.specs.Message as Message;
-ghost use Rattle.book.specs.Entries.{entries_of};
-ghost use Rattle.message_checks.specs.Parts.{named_checks};
+ghost use Rattle.refusal.specs.Answer.{answer_of};
+ghost use Rattle.command.specs.View.{to_header};
+ghost use Rattle.ledger.specs.Promise.{SoundLedger};
+ghost use Rattle.ledger.specs.View.{ledger_view};
+ghost use Rattle.message_checks.specs.Parts.{header_checks, named_checks};
 
-use book::has_id;
 use command::Header;
+use ledger::Ledger;
+use message_branches::is_head;
 use message_fields::{is_current, is_message_id};
-use message_items::Flags;
-use rules::first;
+use message_item_checks::item_checks;
+use message_items::Item;
+use refusal::{Refusal, check};
 
-// Checks 1, 4, 14, 15, 16 and 17, whatever the days in the book are: `head` is whether the sender is a bank that has a branch.
-pub fn header_checks(
-    formed: bool,
-    known: bool,
-    head: bool,
-    today: u32,
-    ids: &[u8],
-    used: usize,
-    header: Header,
-    id: &[u8],
-) -> u64
-    requires { (used * 32 ≤ length ids.now) × (length id.now ≡ 32) }
-    ensures { (days : List ℕ) → result ≡ first_failure ((1, formed) ∷ (4, known) ∷ (14, not (Message.in_book id.now (entries_of ids.now days used))) ∷ (15, head) ∷ (16, Message.is_message_id id.now) ∷ (17, Message.is_current today header.day) ∷ []) }
+// Checks 1, 4, 14, 15, 16 and 17.
+#[tactic(auto, using(ledger::proofs::Laws::good_table), unfolding(crate::specs::Parts::header_checks, rules::specs::Machine::first_failure, command::specs::View::to_header, book::specs::Entries::book_of, ledger::specs::View::ledger_view, ledger::specs::View::view_of))]
+pub fn header_checks(l: &Ledger, formed: bool, header: Header, id: &[u8]) -> Result<(), Refusal>
+    requires { (SoundLedger l.now) × (length id.now ≡ 32) }
+    ensures says { answer_of result ≡ first_failure (header_checks formed (to_header header id.now) (ledger_view l.now)) }
+    ensures formed { IfOk result (λ _. formed ≡ true) }
 {
-    let kept = has_id(ids, used, id);
-    let right = is_message_id(id);
-    let current = is_current(today, header.day);
-    first(
-        formed,
-        1,
-        first(
-            known,
-            4,
-            first(
-                !kept,
-                14,
-                first(head, 15, first(right, 16, first(current, 17, 0))),
-            ),
-        ),
-    )
+    check(formed, Refusal::IllFormed)?;
+    check(l.table.find(header.sender).is_some(), Refusal::Unknown)?;
+    check(!l.book.has(id), Refusal::IdTaken)?;
+    check(is_head(&l.table, header.sender), Refusal::NoHead)?;
+    check(is_message_id(id), Refusal::IllFormedId)?;
+    check(is_current(l.table.day, header.day), Refusal::NotCurrent)
 }
 
-// Checks 18, 19, 20, 6 and 22. A deletion has no value, so 6 passes.
-pub fn named_checks(f: Flags, used: usize) -> u64
-    ensures { result ≡ first_failure (named_checks f used) }
+// Checks 18, 19, 20, 6 and 22.
+#[tactic(auto, using(ledger::proofs::Laws::good_table, book::proofs::Laws::entries_length), unfolding(crate::specs::Parts::named_checks, rules::specs::Machine::first_failure, rules::specs::Machine::has_book_place, ledger::specs::View::ledger_view, ledger::specs::View::view_of))]
+pub fn named_checks(l: &Ledger, header: Header, items: &[Item]) -> Result<(), Refusal>
+    requires { SoundLedger l.now }
+    ensures says { answer_of result ≡ first_failure (named_checks header items.now (ledger_view l.now)) }
+    ensures room { IfOk result (λ _. l.now.book.used < 1024) }
 {
-    first(
-        f.later,
-        18,
-        first(
-            f.typed,
-            19,
-            first(f.owned, 20, first(f.ranged, 6, first(used < 1024, 22, 0))),
-        ),
-    )
+    item_checks(&l.table, header, items)?;
+    check(!l.book.is_full(), Refusal::BookFull)
 }

@@ -1,43 +1,30 @@
-// What a query and a search have in common: what they answer, and their checks before 21.
+// What a query and a search have in common: their checks before 21.
 #![tactic(auto)]
 
-ghost use Rattle.std.specs.Prelude.{◌≡◌, not, [], ◌∷◌};
+ghost use Rattle.std.specs.Prelude.{◌≡◌, true, not, [], ◌∷◌, IfOk};
+ghost use Rattle.rules.specs.Account.{known};
 ghost use Rattle.rules.specs.Machine.{first_failure};
 ghost use Rattle.rules.specs.Message as Message;
+ghost use Rattle.refusal.specs.Answer.{answer_of};
+ghost use Rattle.table.specs.View.{accounts_of};
+ghost use Rattle.book.specs.Entries.{book_of};
+ghost use Rattle.ledger.specs.Promise.{SoundLedger};
 
+use command::Header;
+use ledger::Ledger;
 use message_fields::{is_current, is_message_id};
-use rules::first;
+use refusal::{Refusal, check};
 
-// The answer, how many places of the book are used, and the length of the report that was written.
-#[derive(Clone, Copy)]
-pub struct Asked {
-    pub answer: u64,
-    pub used: usize,
-    pub report_len: usize,
-}
-
-// The checks before 21.
-pub fn header_answer(
-    formed: bool,
-    known: bool,
-    listed: bool,
-    id: &[u8],
-    today: u32,
-    day: u32,
-) -> u64
-    ensures { result ≡ first_failure ((1, formed) ∷ (4, known) ∷ (14, not listed) ∷ (16, Message.is_message_id id.now) ∷ (17, Message.is_current today day) ∷ []) }
+// `formed` is the check of the frame and of the report buffer's length.
+#[tactic(auto, using(ledger::proofs::Laws::good_table), unfolding(rules::specs::Machine::first_failure))]
+pub fn header_checks(l: &Ledger, formed: bool, header: Header, id: &[u8; 32]) -> Result<(), Refusal>
+    requires { SoundLedger l.now }
+    ensures says { answer_of result ≡ first_failure ((1, formed) ∷ (4, known header.sender (accounts_of l.now.table)) ∷ (14, not (Message.in_book id.now (book_of l.now.book))) ∷ (16, Message.is_message_id id.now) ∷ (17, Message.is_current l.now.table.day header.day) ∷ []) }
+    ensures formed { IfOk result (λ _. formed ≡ true) }
 {
-    first(
-        formed,
-        1,
-        first(
-            known,
-            4,
-            first(
-                !listed,
-                14,
-                first(is_message_id(id), 16, first(is_current(today, day), 17, 0)),
-            ),
-        ),
-    )
+    check(formed, Refusal::IllFormed)?;
+    l.table.find(header.sender).ok_or(Refusal::Unknown)?;
+    check(!l.book.has(id), Refusal::IdTaken)?;
+    check(is_message_id(id), Refusal::IllFormedId)?;
+    check(is_current(l.table.day, header.day), Refusal::NotCurrent)
 }

@@ -1,111 +1,91 @@
-// The items of a change as a list of records, and their checks: what one item is tested for is in `test_item`.
+// The items of a change as a list of records, each with the code that its account id names, and the checks that run over a list of them.
 #![tactic(auto)]
 
-ghost use Rattle.std.specs.Prelude.{◌≡◌, map, ◌<◌, ◌≤◌, length, take};
+ghost use Rattle.std.specs.Prelude.{◌≡◌, map, ◌≤◌};
+ghost use Rattle.std.specs.List.{list_all};
+ghost use Rattle.amount.specs.Amount as Amount;
+ghost use Rattle.rules.specs.Message as Message;
 ghost use Rattle.command.specs.View.{items_from};
-ghost use Rattle.message_items.specs.Records.{record_of, record_at, tested, reviewed};
+ghost use Rattle.table.specs.Promise.{Good};
+ghost use Rattle.table.specs.View.{accounts_of};
+ghost use Rattle.message_items.specs.Records.{record_of, is_later_in};
 
+use account::Moment;
 use amount::is_limit;
-use message_branches::Branches;
+use arrayvec::ArrayVec;
+use command::Header;
+use message_branches::{is_branch_of, is_later};
 use message_fields::{is_type, named};
-use slices::copy;
-use table::{place, slot};
+use table::Table;
 
-// Whether checks 18, 19, 20 and 6 pass.
-#[derive(Clone, Copy)]
-pub struct Flags {
-    pub later: bool,
-    pub typed: bool,
-    pub owned: bool,
-    pub ranged: bool,
-}
-
-// Account id, type, the place of the account among the codes looked at, and value.
-#[derive(Clone, Copy)]
+// The code of the account, the type of the limit, and its value.
+#[derive(Clone, Copy, Default)]
 pub struct Item {
-    pub account: [u8; 10],
+    pub code: u32,
     pub kind: u8,
-    pub place: u8,
     pub value: i64,
 }
 
-// The first n items of a change as records; the codes in use are the first `count`.
+// When a message was made.
+pub fn moment_of(header: Header) -> Moment
+    ensures { result ≡ record { day = header.day; second = header.second } }
+{
+    Moment {
+        day: header.day,
+        second: header.second,
+    }
+}
+
+// The first n items of a change.
 pub fn records(
-    codes: &[u32; 64],
-    count: usize,
     accounts: [u8; 160],
     types: [u8; 16],
     values: [i64; 16],
     n: usize,
-) -> [Item; 16]
-    requires { (n ≤ 16) × (count ≤ 64) × (length codes.now ≡ 64) }
-    ensures { take n result ≡ map (record_of (take count codes.now)) (items_from 0 n accounts types values) }
+) -> ArrayVec<Item, 16>
+    requires { n ≤ 16 }
+    ensures { result.items ≡ map record_of (items_from 0 n accounts types values) }
 {
-    let none = Item {
-        account: [0; 10],
-        kind: 0,
-        place: 0,
-        value: 0,
-    };
-    let mut items = [none; 16];
-    let mut i: usize = 0;
-    while i < n {
-        let mut account = [0u8; 10];
-        copy(&accounts, i * 10, 10, &mut account, 0);
-        let p = place(codes, count, named(&accounts, i * 10));
-        items[i] = Item {
-            account: account,
+    let mut items = ArrayVec::new();
+    for i in 0..n {
+        items.push(Item {
+            code: named(&accounts, i * 10),
             kind: types[i],
-            place: p as u8,
             value: values[i],
-        };
-        i += 1;
+        });
     }
     items
 }
 
-// The flags with one item more.
-pub fn test_item(b: Branches, f: Flags, item: Item) -> Flags
-    ensures { result ≡ tested b f item }
+// Check 18: the message is later than the last of each of the sender's branches that it names.
+pub fn are_later(t: &Table, header: Header, items: &[Item]) -> bool
+    requires { Good t.now }
+    ensures { result ≡ list_all (λ i. is_later_in header (accounts_of t.now) i.code) items.now }
 {
-    let p = item.place as usize;
-    let j = slot(p);
-    let known = p < 64;
-    let later = !known | b.later[j];
-    let owned = known & b.owned[j];
-    Flags {
-        later: f.later & later,
-        typed: f.typed & is_type(item.kind),
-        owned: f.owned & owned,
-        ranged: f.ranged & is_limit(item.value),
-    }
+    let moment = moment_of(header);
+    items
+        .iter()
+        .all(|item| is_later(t, header.sender, item.code, moment))
 }
 
-// Item i is copied out and tested.
-pub fn test_at(items: &[Item], i: usize, b: Branches, f: Flags) -> Flags
-    requires { i < length items.now }
-    ensures { result ≡ tested b f (record_at items.now i) }
+// Check 19.
+pub fn are_typed(items: &[Item]) -> bool
+    ensures { result ≡ list_all (λ i. Message.is_type i.kind) items.now }
 {
-    test_item(b, f, items[i])
+    items.iter().all(|item| is_type(item.kind))
 }
 
-// All items, in order.
-pub fn check_items(items: &[Item], b: Branches, f: Flags) -> Flags
-    ensures { result ≡ reviewed b f items.now }
+// Check 20: each item names a branch of the sender's.
+pub fn are_owned(t: &Table, sender: u32, items: &[Item]) -> bool
+    requires { Good t.now }
+    ensures { result ≡ list_all (λ i. Message.is_branch_of sender i.code (accounts_of t.now)) items.now }
 {
-    let mut r = f;
-    let mut i = 0;
-    while i < items.len() {
-        r = test_at(items, i, b, r);
-        i += 1;
-    }
-    r
+    items.iter().all(|item| is_branch_of(t, sender, item.code))
 }
 
-// The first n items of an array are lent.
-pub fn check_first(items: [Item; 16], n: usize, b: Branches, f: Flags) -> Flags
-    requires { n ≤ 16 }
-    ensures { result ≡ reviewed b f (take n items) }
+// Check 6.
+pub fn are_ranged(items: &[Item]) -> bool
+    ensures { result ≡ list_all (λ i. Amount.is_limit i.value) items.now }
 {
-    check_items(&items[..n], b, f)
+    items.iter().all(|item| is_limit(item.value))
 }

@@ -1,52 +1,46 @@
--- A limit cleared, and accounts with other limits stored in a table. Assumes nothing.
-use mathlib.Core.Path.{◌≡◌, refl, sym, ap, ap₂, ◌∙◌}
-use mathlib.Core.Bool.{true, false, cond}
-use mathlib.Core.List.{List, []}
-use Prim.Native.Nat.{ℕ, ◌^◌, ◌<◌}
-use native.Mathlib.Omega.{arith}
+-- The account of a code with another limit, stored where it stands. Assumes nothing.
+use Rattle.std.proofs.Common.{arith, ◌≡◌, refl, sym, ap, ◌∙◌, ℕ, zero, suc, ◌≤◌, ◌<◌, List, [], ◌∷◌, map, length, take, set, get_or, true, false, cond, ◌||◌, true≢false}
 use lib.Dec.{eqb}
-use lib.ListN.{length, take, get_or, set}
+use lib.ListN.{length-map, length-take}
+use lib.Seq.{take-set-lt}
 use Rattle.rules.specs.Account as Rule
-use Rattle.rules.specs.Account.{Limit, with_limits, codes, adjust}
-use Rattle.rules.specs.Machine.{with_accounts}
-use Rattle.rules.specs.Message.{with_limit, cleared}
-use Rattle.rules.proofs.Ledger.{Quiet}
+use Rattle.rules.specs.Account.{Limit, blank, codes, among, known, at, adjust}
+use Rattle.rules.proofs.Lists.{codes_adjust}
 use Rattle.account.specs.declared.Account.{Account}
 use Rattle.account.specs.View.{to_account}
 use Rattle.table.specs.declared.Table.{Table}
-use Rattle.table.specs.Promise.{Good, Slot, Holds, stored_at}
-use Rattle.table.specs.View.{accounts_of, machine_of, place_of}
-use Rattle.table.proofs.Found.{place_is}
-use Rattle.table.proofs.Stored.{Stored, stored_none, stored_with, light_kept}
+use Rattle.table.specs.Promise.{stored_at}
+use Rattle.table.specs.View.{accounts_of, place_of}
+use Rattle.table.proofs.Places.{adjust_place, at_place, accounts_at, map_set}
 
--- ---- one account
+set_past : {X : Type 0} (l : List X) (i : ℕ) (x : X) → length l ≤ i → set l i x ≡ l
+set_past [] i x h = refl
+set_past (y ∷ l) zero x h = absurd (omega arith)
+set_past (y ∷ l) (suc i) x h = ap (λ m. y ∷ m) (set_past l i x (omega arith))
 
--- a limit by its kind, cleared
-pub cleared_limit : (kind : ℕ) (x : Rule.Account) (l : Limit) → l ≡ cond (eqb kind 1) x.ltk x.lpo → with_limit kind (λ m. cleared l) x ≡ with_limit kind cleared x
-unfolding with_limit
-cleared_limit kind x l e =
-    (elim (eqb kind 1) as (λ b. l ≡ cond b x.ltk x.lpo
-    → cond b (with_limits (cleared l) x.lpo x) (with_limits x.ltk (cleared l) x) ≡ cond b (with_limits (cleared x.ltk) x.lpo x) (with_limits x.ltk (cleared x.lpo) x))
-    [ true ↦ λ e. ap (λ m. with_limits (cleared m) x.lpo x) e | false ↦ λ e. ap (λ m. with_limits x.ltk (cleared m) x) e ]) e
+pub unknown_adjust : (c : ℕ) (f : Rule.Account → Rule.Account) (xs : List Rule.Account) → known c xs ≡ false → xs ≡ adjust c f xs
+unfolding known codes among adjust
+unknown_adjust c f [] e = refl
+unknown_adjust c f (x ∷ xs) e =
+    (elim (eqb x.code c) as (λ b. (b || known c xs) ≡ false → x ∷ xs ≡ cond b (f x ∷ xs) (x ∷ adjust c f xs)) [ true ↦ λ e. absurd (true≢false e) | false ↦ λ e. ap (λ l. x ∷ l) (unknown_adjust c f xs e) ]) e
 
-module _ (t : Table) (g : Good t) (long : length t.accounts ≡ 64) where
-  module _ {arr : List Account} {b : ℕ} {xs : List Rule.Account} (s : Stored t arr b xs) (c p : ℕ) (e : p ≡ place_of c (take t.count t.codes)) {f : Rule.Account → Rule.Account} (q : Quiet f) where
-    pub one_changed : (y d : Account) → p < t.count → to_account y ≡ f (to_account (get_or arr p d)) → Stored t (set arr p y) b (adjust c f xs)
-    one_changed y d h r = stored_with t g s c p d (place_is t g c p e) h f y q.tame (λ x. light_kept b x (f x) (q.turnovers_kept x)) r
+module _ (t : Table) (c i : ℕ) (e : i ≡ place_of c (codes (accounts_of t))) where
+  -- where the code is not in the table, nothing is set
+  pub none_set : (f : Rule.Account → Rule.Account) → t.count ≤ i → accounts_of t ≡ adjust c f (accounts_of t)
+  unfolding accounts_of
+  none_set f h =
+      sym (adjust_place c f (accounts_of t) ∙ set_past (accounts_of t) _ (f (at c (accounts_of t))) (omega (arith, e, length-map (take t.count t.accounts) to_account, length-take t.count t.accounts)))
 
-  pub stored_holds : (u : Table) (b : ℕ) (xs : List Rule.Account) → u.codes ≡ t.codes → u.count ≡ t.count → u.day ≡ t.day → Stored t u.accounts b xs → Holds t u xs
-  unfolding machine_of accounts_of with_accounts
-  stored_holds u b xs ec en ed s =
-      let view : accounts_of u ≡ xs = ap (λ n. accounts_of (record { codes = u.codes; accounts = u.accounts; count = n; day = u.day })) en ∙ s.view in
-      record {
-        within = omega (arith, g.within);
-        same = ap₂ take en ec ∙ g.same ∙ sym s.same ∙ ap codes (sym view);
-        view = ap₂ (λ ys n. record { day = n; accounts = ys; ids = [] }) view ed;
-      }
+  module _ (within : t.count ≤ 64) (long : length t.accounts ≡ 64) (h : i < t.count) (f : Rule.Account → Rule.Account) (y d : Account) (q : to_account y ≡ f (to_account (get_or t.accounts i d))) where
+    pub one_set : accounts_of (stored_at t i y) ≡ adjust c f (accounts_of t)
+    unfolding accounts_of
+    one_set =
+        ap (map to_account) (take-set-lt t.count t.accounts i y h)
+        ∙ map_set to_account (take t.count t.accounts) i y
+        ∙ ap (set (accounts_of t) i) (q ∙ ap f (sym (accounts_at t within long i d blank h) ∙ ap (λ j. get_or (accounts_of t) j blank) e ∙ sym (at_place c (accounts_of t))))
+        ∙ ap (λ j. set (accounts_of t) j (f (at c (accounts_of t)))) e
+        ∙ sym (adjust_place c f (accounts_of t))
 
-  -- the account of a known code, stored anew at its place
-  pub one_holds : (c p j : ℕ) → p ≡ place_of c (take t.count t.codes) → Slot p j → p < t.count → {f : Rule.Account → Rule.Account} → Quiet f → (y d : Account)
-      → to_account y ≡ f (to_account (get_or t.accounts j d)) → Holds t (stored_at t j y) (adjust c f (accounts_of t))
-  one_holds c p j e s h {f} q y d r =
-      let same : j ≡ p = s.same (omega (arith, h, g.within)) in
-      stored_holds (stored_at t j y) (10 ^ 17) (adjust c f (accounts_of t)) refl refl refl (one_changed (stored_none t g long) c j (same ∙ e) q y d (omega (arith, same, h)) r)
+    -- the codes are as they were
+    pub codes_kept : ((x : Rule.Account) → (f x).code ≡ x.code) → take t.count t.codes ≡ codes (accounts_of t) → take t.count t.codes ≡ codes (accounts_of (stored_at t i y))
+    codes_kept k same = same ∙ sym (codes_adjust c f k (accounts_of t)) ∙ ap codes (sym one_set)

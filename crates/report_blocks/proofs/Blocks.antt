@@ -1,19 +1,18 @@
 -- The blocks of a report: how long they are, one after the other, and the block of the account at a place. Assumes nothing.
 use mathlib.Core.Path.{◌≡◌, refl, sym, ap, ◌∙◌, subst}
-use mathlib.Core.Bool.{Bool, true, false, cond, ◌||◌}
+use mathlib.Core.Bool.{true, false, cond}
 use mathlib.Core.List.{List, [], ◌∷◌, ◌++◌, append_assoc, append-nil}
-use Prim.Native.Nat.{ℕ, zero, suc, ◌+◌, ◌*◌, ◌≤◌, ◌<◌}
+use Prim.Native.Nat.{ℕ, zero, suc, ◌+◌, ◌*◌, ◌≤◌}
 use native.Mathlib.Omega.{arith}
 use native.Mathlib.Numerals.{add-one}
-use borrow.Author.Tests.{ltb-true}
-use lib.Dec.{ltb, eqb}
-use lib.ListN.{length, take, get_or, length-append}
+use lib.Dec.{T}
+use lib.ListN.{length, get_or, length-append}
 use Rattle.octets.specs.Octets.{part, write}
 use Rattle.rules.specs.Account as Rule
 use Rattle.rules.specs.Account.{known, at}
 use Rattle.rules.specs.Command.{Header, Query}
 use Rattle.rules.specs.Invariant.{All, Sized, Fit}
-use Rattle.rules.specs.Message.{named, owned_by, may_ask}
+use Rattle.rules.specs.Message.{named, may_ask}
 use Rattle.rules.specs.Report.{account_block, block, blocks, report_of}
 use Rattle.account.specs.declared.Account.{Account}
 use Rattle.account.specs.View.{to_account}
@@ -21,10 +20,10 @@ use Rattle.report_account.proofs.Laws.{length_account}
 use Rattle.command.proofs.Forms.{ids_length}
 use Rattle.command.specs.View.{ids_from}
 use Rattle.table.specs.declared.Table.{Table}
-use Rattle.table.specs.View.{accounts_of, machine_of, place_of}
-use Rattle.table.specs.Promise.{Good, Slot}
-use Rattle.table.proofs.Called.{every_sized, place_has}
-use Rattle.table.proofs.Found.{place_is, place_known, account_at}
+use Rattle.table.specs.View.{accounts_of, machine_of}
+use Rattle.table.specs.Promise.{Good, FoundAt}
+use Rattle.table.proofs.Called.{every_sized}
+use Rattle.rules.proofs.Lists.{all_at}
 use Rattle.octet_writer.specs.Written.{Written}
 use Rattle.octet_writer.proofs.Laws.{written_then}
 use Rattle.report_blocks.specs.Reportable.{Reportable}
@@ -96,7 +95,7 @@ unfolding report_of
 report_written h xs a n l out at w =
     subst (λ (k : ℕ). Written l 0 ((k ∷ []) ++ blocks h.sender xs (ids_from 0 n a)) out at) (sym (ids_length a 0 n)) w
 
--- ---- the account at the place of a code
+-- ---- the account of a code
 
 reportable : (t : Table) → Good t → All Reportable (accounts_of t)
 unfolding machine_of
@@ -106,31 +105,6 @@ reportable t g = go (accounts_of t) (every_sized t g) g.inv.fit
     go [] a f = tt
     go (x ∷ xs) a f = (record { sized = a.0; ltk_ok = f.0.limited.ltk_ok; lpo_ok = f.0.limited.lpo_ok }, go xs a.1 f.1)
 
--- what is said of a known account
-abbrev pub shown : ℕ → ℕ → Rule.Account → List ℕ
-shown s c x = cond (eqb s c || owned_by s x.owner) (account_block x) (24 ∷ [])
-
-module _ (t : Table) (g : Good t) (long : length t.accounts ≡ 64) (c i j : ℕ) (d : Account) (e : i ≡ place_of c (take t.count t.codes)) (s : Slot i j) where
-  slot_same : i < t.count → j ≡ i
-  slot_same h = s.same (omega (arith, g.within))
-
-  pub place_reportable : ltb i t.count ≡ true → Reportable (to_account (get_or t.accounts j d))
-  place_reportable b =
-      let h : i < t.count = ltb-true i t.count b in
-      place_has t g long Reportable (reportable t g) j d (omega (arith, slot_same h))
-
-  -- an account that was not found is not looked at
-  found_block_lem : (sender : ℕ) → cond (ltb i t.count) (shown sender c (to_account (get_or t.accounts j d))) (23 ∷ []) ≡ block sender (accounts_of t) c
-  unfolding block may_ask
-  found_block_lem sender = go (ltb i t.count) refl ∙ ap (λ (b : Bool). cond b (shown sender c (at c (accounts_of t))) (23 ∷ [])) (place_known t g long c i e)
-    where
-      go : (b : Bool) → ltb i t.count ≡ b → cond b (shown sender c (to_account (get_or t.accounts j d))) (23 ∷ []) ≡ cond b (shown sender c (at c (accounts_of t))) (23 ∷ [])
-      go true q =
-          let h : i < t.count = ltb-true i t.count q in
-          ap (shown sender c) (account_at t g long c j d (slot_same h ∙ place_is t g c i e) (omega (arith, slot_same h)))
-      go false q = refl
-
-  pub place_block : (sender : ℕ) (owned : Bool) → owned ≡ owned_by sender (to_account (get_or t.accounts j d)).owner
-      → cond (ltb i t.count) (cond (eqb sender c || owned) (account_block (to_account (get_or t.accounts j d))) (24 ∷ [])) (23 ∷ []) ≡ block sender (accounts_of t) c
-  place_block sender owned o =
-      ap (λ (b : Bool). cond (ltb i t.count) (cond (eqb sender c || b) (account_block (to_account (get_or t.accounts j d))) (24 ∷ [])) (23 ∷ [])) o ∙ found_block_lem sender
+pub reportable_at : (t : Table) (c i : ℕ) (d : Account) → Good t → FoundAt t c i → Reportable (to_account (get_or t.accounts i d))
+reportable_at t c i d g f =
+    subst Reportable (sym (f.account d)) (all_at c Reportable (accounts_of t) (subst T (sym f.is_known) tt) (reportable t g))

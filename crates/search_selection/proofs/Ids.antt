@@ -9,10 +9,10 @@ use Rattle.octets.proofs.Places.{write_is}
 use Rattle.rules.specs.Message.{digits, account_id}
 use Rattle.rules.proofs.Digits.{length_digits}
 
-pub id_written : (c : ℕ) → write (49 ∷ 85 ∷ 65 ∷ 72 ∷ 0 ∷ 0 ∷ 0 ∷ 0 ∷ 0 ∷ 0 ∷ []) 4 (digits 6 c) ≡ account_id c
+pub id_written : (c : ℕ) → write (49 ∷ 85 ∷ 65 ∷ 72 ∷ 48 ∷ 48 ∷ 48 ∷ 48 ∷ 48 ∷ 48 ∷ []) 4 (digits 6 c) ≡ account_id c
 unfolding account_id
 id_written c =
-    let l : List ℕ = 49 ∷ 85 ∷ 65 ∷ 72 ∷ 0 ∷ 0 ∷ 0 ∷ 0 ∷ 0 ∷ 0 ∷ [] in
+    let l : List ℕ = 49 ∷ 85 ∷ 65 ∷ 72 ∷ 48 ∷ 48 ∷ 48 ∷ 48 ∷ 48 ∷ 48 ∷ [] in
     write_is l 4 (digits 6 c) (omega (arith, length_digits 6 c))
     ∙ ap (λ (n : ℕ). (49 ∷ 85 ∷ 65 ∷ 72 ∷ []) ++ (digits 6 c ++ drop (4 + n) l)) (length_digits 6 c)
     ∙ ap (λ (d : List ℕ). (49 ∷ 85 ∷ 65 ∷ 72 ∷ []) ++ d) (append-nil (digits 6 c))

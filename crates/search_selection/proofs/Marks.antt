@@ -16,7 +16,6 @@ use Rattle.rules.specs.Search.{meets, selects, those}
 use Rattle.table.specs.declared.Table.{Table}
 use Rattle.table.specs.View.{accounts_of}
 use Rattle.table.specs.Promise.{Good}
-use Rattle.table.proofs.Places.{accounts_length}
 use Rattle.search_set.specs.Sets.{set_of, chosen}
 use Rattle.search_set.proofs.Laws.{set_below, set_more, set_same}
 
@@ -51,14 +50,23 @@ code_at [] i d h = absurd (omega arith)
 code_at (x ∷ xs) zero d h = refl
 code_at (x ∷ xs) (suc i) d h = code_at xs i d (omega arith)
 
-pub table_code : (t : Table) → Good t → length t.accounts ≡ 64 → (i : ℕ) (d : Rule.Account) → i < t.count → get_or t.codes i 0 ≡ (get_or (accounts_of t) i d).code
-table_code t g long i d h =
-    sym (get_or-take t.count t.codes i 0 h)
-    ∙ ap (λ (l : List ℕ). get_or l i 0) g.same
-    ∙ code_at (accounts_of t) i d (omega (arith, accounts_length t g.within long))
+pub length_codes : (xs : List Rule.Account) → length (codes xs) ≡ length xs
+unfolding codes
+length_codes [] = refl
+length_codes (x ∷ xs) = ap suc (length_codes xs)
+
+module _ (t : Table) (g : Good t) (long : length t.codes ≡ 64) where
+  pub counted : length (accounts_of t) ≡ t.count
+  counted = omega (arith, length-take-le t.count t.codes (omega (arith, g.within)), ap length g.same, length_codes (accounts_of t))
+
+  pub table_code : (i : ℕ) (d : Rule.Account) → i < t.count → get_or t.codes i 0 ≡ (get_or (accounts_of t) i d).code
+  table_code i d h =
+      sym (get_or-take t.count t.codes i 0 h)
+      ∙ ap (λ (l : List ℕ). get_or l i 0) g.same
+      ∙ code_at (accounts_of t) i d (omega (arith, counted))
 
 -- what was found of the id at a place is what selection says of the account there
-pub found_selects : (t : Table) → Good t → length t.accounts ≡ 64 → (cs : List Condition) (i : ℕ) (d : Rule.Account) (id : List ℕ) (r : Bool) → i < t.count
+pub found_selects : (t : Table) → Good t → length t.codes ≡ 64 → (cs : List Condition) (i : ℕ) (d : Rule.Account) (id : List ℕ) (r : Bool) → i < t.count
     → id ≡ account_id (get_or t.codes i 0) → r ≡ some? (meets id) cs → r ≡ selects cs (get_or (accounts_of t) i d)
 unfolding selects
 found_selects t g long cs i d id r h e f =

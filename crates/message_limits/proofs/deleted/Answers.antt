@@ -1,25 +1,13 @@
--- The limit of the kind is the one cleared. Assumes nothing.
-use borrow.Author.Tests.{eq-eqb, ne_eqb}
-use mathlib.Core.Path.{◌≡◌, ap, ◌∙◌}
-use mathlib.Core.Bool.{cond}
-use lib.Dec.{eqb}
+use Rattle.std.proofs.Common.{◌∙◌, ap}
 use Rattle.rules.specs.Account.{with_moment}
-use Rattle.rules.specs.Message.{with_limit, touch}
+use Rattle.rules.specs.Message.{touch, cleared}
 use Rattle.command.specs.View.{to_header}
-use Rattle.account.specs.View.{to_account, to_limit}
-use Rattle.message_limits.proofs.Sets.{cleared_limit}
-use Rattle.message_limits.proofs.deleted.Goals.{then-kind-eq1, else-kind-eq1}
+use Rattle.account.specs.View.{to_account}
+use Rattle.message_limits.proofs.Types.{with_named}
 use Rattle.message_limits.proofs.deleted.Goals as goal
 
 pub returns : goal.returns
-unfolding touch to_header to_account
+unfolding touch to_header
 returns c id =
-    let chosen : to_limit c.if-kind-eq1.limit ≡ cond (eqb c.args.kind 1) (to_limit c.args.x.ltk) (to_limit c.args.x.lpo) =
-    elim c.if-kind-eq1.branch [
-      | then-kind-eq1 w ↦ rw (eq-eqb c.args.kind 1 w.if-kind-eq1.true) (ap to_limit w.limit-is)
-      | else-kind-eq1 w ↦ rw (ne_eqb c.args.kind 1 w.if-kind-eq1.false) (ap to_limit w.limit-is)
-    ] in
-    c.touched.ensures
-    ∙ ap (with_moment (record { day = c.args.header.day; second = c.args.header.second }))
-    (ap (λ k. with_limit c.args.kind (λ m. k) (to_account c.args.x)) c.cleared.ensures
-    ∙ cleared_limit c.args.kind (to_account c.args.x) (to_limit c.if-kind-eq1.limit) chosen)
+    (rw (c.cleared.ensures, c.limit.ensures, c.from-limit_type.ensures, c.moment_of.ensures) at c.touched.ensures)
+    ∙ ap (with_moment _) (with_named c.args.kind cleared (to_account c.args.x))

@@ -1,50 +1,22 @@
 use native.Mathlib.Omega.{arith}
+use mathlib.Core.Path.{◌≡◌, ap, ◌∙◌}
+use lib.ListN.{length}
 use Rattle.rules.specs.Letters.{letters_shown, letter_bytes}
 use Rattle.account_letters.specs.View.{to_letter}
+use Rattle.octet_writer.specs.Written.{Written}
+use Rattle.octet_writer.proofs.Laws.{written_then, written_front}
 use borrow.Author.Rules.{rules}
-use Rattle.report_letters.proofs.Laws.{behind_most, letters_written, numbered}
+use Rattle.report_letters.proofs.Laws.{letters_written}
 use Rattle.report_letters.proofs.put_letters.Goals as goal
 
-pub put_letter-b-requires : goal.put_letter-b-requires
-put_letter-b-requires c =
-    omega (arith, behind_most _ _ c.put_letter-a.ensures)
-
-pub put_letter-n-requires : goal.put_letter-n-requires
-put_letter-n-requires c =
-    omega (arith, behind_most _ _ c.put_letter-a.ensures, behind_most _ _ c.put_letter-b.ensures)
-
-pub put_letter-s-requires : goal.put_letter-s-requires
-put_letter-s-requires c =
-    omega (arith, behind_most _ _ c.put_letter-a.ensures, behind_most _ _ c.put_letter-b.ensures, behind_most _ _ c.put_letter-n.ensures)
-
-pub put_letter-end-requires : goal.put_letter-end-requires
-put_letter-end-requires c =
-    omega (
-      arith,
-      behind_most _ _ c.put_letter-a.ensures,
-      behind_most _ _ c.put_letter-b.ensures,
-      behind_most _ _ c.put_letter-n.ensures,
-      behind_most _ _ c.put_letter-s.ensures,
-    )
-
-pub overflow_cast-end : goal.overflow_cast-end
-overflow_cast-end c =
-    record {
-      fits =
-          omega (
-            arith,
-            behind_most _ _ c.put_letter-a.ensures,
-            behind_most _ _ c.put_letter-b.ensures,
-            behind_most _ _ c.put_letter-n.ensures,
-            behind_most _ _ c.put_letter-s.ensures,
-            behind_most _ _ c.put_letter-end.ensures,
-          );
-    }
-
-pub returns : goal.returns
+pub returns-clause-wrote : goal.returns-clause-wrote
 unfolding to_letter letter_bytes
-returns c =
+returns-clause-wrote c =
     let w =
-    letters_written c.args.letters c.put_letter-a.ensures c.put_letter-b.ensures c.put_letter-n.ensures
-    c.put_letter-s.ensures c.put_letter-end.ensures in
-    numbered _ _ _ (letters_shown c.args.letters) c.args.at _ _ w c.put_byte.ensures (omega (arith, w.behind))
+    rw c.new-set.ensures.2 at
+    (letters_written c.args.letters c.put_letter.ensures.wrote c.put_letter-2.ensures.wrote c.put_letter-3.ensures.wrote c.put_letter-4.ensures.wrote
+    c.put_letter-5.ensures.wrote) in
+    let n : c.len-count.result ≡ length (letters_shown c.args.letters) = c.len-count.ensures ∙ omega (arith, w.behind) in
+    let f = written_front w (omega (arith, c.new-set.ensures.2, ap length c.new-set.ensures.1)) in
+    let b : Written c.put.new.self.out.now c.put.new.self.at (letters_shown c.args.letters) c.put_all.new.self.out.now c.put_all.new.self.at = search rules in
+    written_then (rw n at c.put.ensures.wrote) b

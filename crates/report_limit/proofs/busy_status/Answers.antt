@@ -5,14 +5,11 @@ use Rattle.report_limit.specs.Statuses.{to_status}
 use Rattle.report_limit.proofs.Laws.{percent_most}
 use Rattle.report_limit.proofs.busy_status.Goals as goal
 
-pub percent-share-requires : goal.percent-share-requires
-percent-share-requires c = rw (to_z-of_z c.ranges.used, to_z-of_z c.ranges.v) (omega arith, c.requires.2)
-
-pub overflow_cast-share : goal.overflow_cast-share
-overflow_cast-share c =
-    let e = rw (to_z-of_z c.ranges.used, to_z-of_z c.ranges.v) at c.percent-share.ensures in
+pub overflow_cast-result : goal.overflow_cast-result
+overflow_cast-result c =
+    let e = rw (to_z-of_z c.ranges.used, to_z-of_z c.ranges.v) at c.percent.ensures in
     omega (arith, e, percent_most c.args.used c.args.v c.requires.0)
 
 pub returns : goal.returns
 unfolding to_status Report.busy_status
-returns c = rw (c.percent-share.ensures, to_z-of_z c.ranges.v, to_z-of_z c.ranges.used, to_z-of_z c.ranges.left)
+returns c = rw (c.percent.ensures, to_z-of_z c.ranges.v, to_z-of_z c.ranges.used, to_z-of_z c.ranges.left)

@@ -28,26 +28,23 @@ overflow_add-at c = omega (arith, room (goal.at.overflow_add-at c).In-loop-left)
 pub bounds-b-at-in-loop-left : goal.bounds-b-at-in-loop-left
 bounds-b-at-in-loop-left c = omega (arith, room (goal.at.bounds-b-at-in-loop-left c).In-loop-left)
 
-pub size-requires : goal.size-requires
-size-requires c = tt
-
 pub overflow_add-end : goal.overflow_add-end
-overflow_add-end c = omega (arith, room (goal.at.overflow_add-end c).In-loop-left, c.size.ensures)
+overflow_add-end c = omega (arith, room (goal.at.overflow_add-end c).In-loop-left, c.from.ensures)
 
 pub slice_bounds-meets-end : goal.slice_bounds-meets-end
-slice_bounds-meets-end c = omega (arith, room (goal.at.slice_bounds-meets-end c).In-loop-left, c.size.ensures)
+slice_bounds-meets-end c = omega (arith, room (goal.at.slice_bounds-meets-end c).In-loop-left, c.from.ensures)
 
 pub meets-requires : goal.meets-requires
 meets-requires c =
-    (c.requires.1, walk_lent_form c.args.b.now c.loop-left.at c.loop-left.left c.loop-left-test.true c.loop-left.invariant.0 c.size.result c.size.ensures)
+    (c.requires.1, walk_lent_form c.args.b.now c.loop-left.at c.loop-left.left c.loop-left-test.true c.loop-left.invariant.0 c.from.result c.from.ensures)
 
 test : (c : After-meets)
     → some? (Search.meets c.args.id.now)
     (conditions_in c.loop-left.left (drop c.loop-left.at c.args.b.now))
     ≡ (c.meets.result || some? (Search.meets c.args.id.now)
-    (conditions_in (c.loop-left.left - 1) (drop (c.loop-left.at + 2 + c.size.result) c.args.b.now)))
+    (conditions_in (c.loop-left.left - 1) (drop (c.loop-left.at + 2 + c.from.result) c.args.b.now)))
 test c =
-    walk_test c.args.b.now c.loop-left.at c.loop-left.left c.loop-left-test.true c.loop-left.invariant.0 c.size.result c.size.ensures (Search.meets c.args.id.now) c.meets.result c.meets.ensures
+    walk_test c.args.b.now c.loop-left.at c.loop-left.left c.loop-left-test.true c.loop-left.invariant.0 c.from.result c.from.ensures (Search.meets c.args.id.now) c.meets.result c.meets.ensures
 
 pub returns-then-meets : goal.returns-then-meets
 returns-then-meets c =
@@ -55,7 +52,7 @@ returns-then-meets c =
 
 pub loop-left-preserved : goal.loop-left-preserved
 loop-left-preserved c =
-    (walk_rest c.args.b.now c.loop-left.at c.loop-left.left c.loop-left-test.true c.loop-left.invariant.0 c.size.result c.size.ensures, c.loop-left.invariant.1 ∙ test (goal.at.loop-left-preserved c).After-meets ∙ rw c.if-meets.false)
+    (walk_rest c.args.b.now c.loop-left.at c.loop-left.left c.loop-left-test.true c.loop-left.invariant.0 c.from.result c.from.ensures, c.loop-left.invariant.1 ∙ test (goal.at.loop-left-preserved c).After-meets ∙ rw c.if-meets.false)
 
 pub returns : goal.returns
 returns c =

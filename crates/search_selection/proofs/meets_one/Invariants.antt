@@ -8,6 +8,3 @@ use Rattle.search_selection.proofs.meets_one.Given as goal
 abbrev pub invariant-loop-left : goal.invariant-loop-left
 invariant-loop-left l =
     (ConditionsFirst l.left (drop l.at l.b)) × (some? (Search.meets l.id) (conditions_in l.n l.b) ≡ some? (Search.meets l.id) (conditions_in l.left (drop l.at l.b)))
-
-abbrev pub decreases-loop-left : goal.decreases-loop-left
-decreases-loop-left l = l.left

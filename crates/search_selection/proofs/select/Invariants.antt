@@ -1,6 +1,5 @@
 use mathlib.Core.Path.{◌≡◌}
 use mathlib.Core.List.{map}
-use Prim.Native.Nat.{◌-◌, ◌≤◌}
 use lib.ListN.{take}
 use Rattle.rules.specs.Search.{selects}
 use Rattle.frame_fields.specs.Conditions.{conditions_in}
@@ -9,7 +8,4 @@ use Rattle.table.specs.View.{accounts_of}
 use Rattle.search_selection.proofs.select.Given as goal
 
 abbrev pub invariant-loop-i : goal.invariant-loop-i
-invariant-loop-i l = (l.i ≤ l.t.count) × (l.set ≡ set_of (map (selects (conditions_in l.n l.b)) (take l.i (accounts_of l.t))))
-
-abbrev pub decreases-loop-i : goal.decreases-loop-i
-decreases-loop-i l = l.t.count - l.i
+invariant-loop-i l = l.set ≡ set_of (map (selects (conditions_in l.n l.b)) (take l.i (accounts_of l.t)))
