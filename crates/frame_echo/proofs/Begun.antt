@@ -5,48 +5,37 @@ use mathlib.Core.List.{List, [], ◌∷◌, ◌++◌, append_assoc, append-nil}
 use Prim.Native.Nat.{ℕ, ◌+◌, ◌<◌, ◌≤◌}
 use native.Mathlib.Omega.{arith}
 use native.Mathlib.Numerals.{add-one}
-use lib.ListN.{length, take, get_or, set, length-append, length-take}
-use lib.Seq.{length-take-le, take_all, take_at, take-suc, take-suc-set}
+use lib.ListN.{length, take, get_or, length-append, length-take}
+use lib.Seq.{take_all, take_at, take-suc}
 use lib.Dec.{eqb}
 use borrow.Author.Tests.{eq-eqb, ne_eqb}
 use Rattle.octets.specs.Octets.{write}
-use Rattle.octets.proofs.Places.{take_none, write_then}
+use Rattle.octets.proofs.Places.{write_then}
 use Rattle.frame_echo.specs.Printed.{is_line, echoed, grown, begun, printed, last, EchoIs}
 
 -- ---- one byte
 
-pub step_end : (line out out' buffer : List ℕ) (b at end : ℕ) → b ≡ 10 → out' ≡ write out at (echoed line) → end ≡ at + length (echoed line)
-    → EchoIs line (b ∷ []) at out out' buffer 0 end
-step_end line out out' buffer b at end e w p =
+pub step_end : (line out out' : List ℕ) (b at end : ℕ) → b ≡ 10 → out' ≡ write out at (echoed line) → end ≡ at + length (echoed line) → EchoIs line (b ∷ []) at out out' [] end
+step_end line out out' b at end e w p =
     let g : begun line (b ∷ []) ≡ [] = unfold begun in ap (λ (t : Bool). cond t [] (grown line b)) (eq-eqb b 10 e) in
     let f : printed line (b ∷ []) ≡ echoed line = unfold printed in (append-nil _ ∙ ap (λ (t : Bool). cond t (echoed line) []) (eq-eqb b 10 e)) in
-    record { kept_is = ap length (sym g); begun_is = take_none buffer ∙ sym g; end_is = rw f p; out_is = rw f w }
+    record { begun_is = sym g; end_is = rw f p; out_is = rw f w }
 
 -- a byte that is no line end prints nothing
-grow : (line out buffer : List ℕ) (b at kept : ℕ) → (b ≡ 10 → ⊥) → kept ≡ length (grown line b) → take kept buffer ≡ grown line b
-    → EchoIs line (b ∷ []) at out out buffer kept at
+grow : (line line' out : List ℕ) (b at : ℕ) → (b ≡ 10 → ⊥) → line' ≡ grown line b → EchoIs line (b ∷ []) at out out line' at
 unfolding write
-grow line out buffer b at kept n l t =
+grow line line' out b at n l =
     let g : begun line (b ∷ []) ≡ grown line b = unfold begun in ap (λ (t : Bool). cond t [] (grown line b)) (ne_eqb b 10 n) in
     let f : printed line (b ∷ []) ≡ [] = unfold printed in (append-nil _ ∙ ap (λ (t : Bool). cond t (echoed line) []) (ne_eqb b 10 n)) in
-    record { kept_is = l ∙ ap length (sym g); begun_is = t ∙ sym g; end_is = rw f (omega arith); out_is = rw f refl }
+    record { begun_is = l ∙ sym g; end_is = rw f (omega arith); out_is = rw f refl }
 
-pub step_more : (buffer out : List ℕ) (b at kept : ℕ) → (b ≡ 10 → ⊥) → kept < 705 → length buffer ≡ 705
-    → EchoIs (take kept buffer) (b ∷ []) at out out (set buffer kept b) (kept + 1) at
+pub step_more : (line out : List ℕ) (b at : ℕ) → (b ≡ 10 → ⊥) → length line < 705 → EchoIs line (b ∷ []) at out out (line ++ (b ∷ [])) at
 unfolding grown
-step_more buffer out b at kept n s l =
-    let long : length (take kept buffer ++ (b ∷ [])) ≡ kept + 1 = omega (arith, length-append (take kept buffer) (b ∷ []), length-take-le kept buffer (omega arith)) in
-    let all = take_all 705 (take kept buffer ++ (b ∷ [])) (omega arith) in
-    grow (take kept buffer) out (set buffer kept b) b at (kept + 1) n (sym (ap length all ∙ long))
-    (ap (λ (k : ℕ). take k (set buffer kept b)) (add-one kept) ∙ take-suc-set buffer kept b (omega arith) ∙ sym all)
+step_more line out b at n s = grow line _ out b at n (sym (take_all 705 (line ++ (b ∷ [])) (omega (arith, length-append line (b ∷ [])))))
 
-pub step_full : (buffer out : List ℕ) (b at kept : ℕ) → (b ≡ 10 → ⊥) → kept ≡ 705 → length buffer ≡ 705
-    → EchoIs (take kept buffer) (b ∷ []) at out out buffer kept at
+pub step_full : (line out : List ℕ) (b at : ℕ) → (b ≡ 10 → ⊥) → length line ≡ 705 → EchoIs line (b ∷ []) at out out line at
 unfolding grown
-step_full buffer out b at kept n e l =
-    let long : length (take kept buffer) ≡ 705 = length-take-le kept buffer (omega arith) ∙ e in
-    let same : take 705 (take kept buffer ++ (b ∷ [])) ≡ take kept buffer = take_at (take kept buffer) (b ∷ []) 705 long in
-    grow (take kept buffer) out buffer b at kept n (e ∙ sym (ap length same ∙ long)) (sym same)
+step_full line out b at n e = grow line line out b at n (sym (take_at line (b ∷ []) 705 e))
 
 -- ---- how long
 
@@ -61,7 +50,7 @@ unfolding echoed
 echo_most line =
     simp length-append (elim (is_line line) as (λ (t : Bool). length (cond t line []) + 1 ≤ length line + 1) [ true ↦ omega arith | false ↦ omega arith ])
 
-begun_most : (line t : List ℕ) → length line ≤ 705 → length (begun line t) ≤ 705
+pub begun_most : (line t : List ℕ) → length line ≤ 705 → length (begun line t) ≤ 705
 unfolding begun
 begun_most line [] h = h
 begun_most line (b ∷ t) h =
@@ -81,9 +70,8 @@ printed_most line (b ∷ t) =
     omega arith
 
 -- so what came of some bytes behind a begun line has room
-pub echo_fits : (line bytes o p l : List ℕ) (kept end : ℕ) → length line ≤ 705 → EchoIs line bytes 0 o p l kept end → (kept ≤ 705) × (end + kept ≤ length line + length bytes)
-echo_fits line bytes o p l kept end h e =
-    (omega (arith, e.kept_is, begun_most line bytes h), omega (arith, e.kept_is, e.end_is, printed_most line bytes))
+pub echo_fits : (line bytes o p l : List ℕ) (end : ℕ) → EchoIs line bytes 0 o p l end → end + length l ≤ length line + length bytes
+echo_fits line bytes o p l end e = omega (arith, ap length e.begun_is, e.end_is, printed_most line bytes)
 
 pub last_most : (line : List ℕ) → length (last line) ≤ length line + 1
 unfolding last
@@ -104,25 +92,23 @@ printed_then line (b ∷ t) u =
     ap (λ (l : List ℕ). cond (eqb b 10) (echoed line) [] ++ l) (printed_then (cond (eqb b 10) [] (grown line b)) t u)
     ∙ sym (append_assoc (cond (eqb b 10) (echoed line) []) _ _)
 
-pub echo_none : (buffer out : List ℕ) (kept : ℕ) → kept ≤ length buffer → EchoIs (take kept buffer) [] 0 out out buffer kept 0
+pub echo_none : (line out : List ℕ) → EchoIs line [] 0 out out line 0
 unfolding begun printed write
-echo_none buffer out kept h = record { kept_is = sym (length-take-le kept buffer h); begun_is = refl; end_is = refl; out_is = refl }
+echo_none line out = record { begun_is = refl; end_is = refl; out_is = refl }
 
-echo_then : (line t u o p q l m : List ℕ) (k e k' e' : ℕ) → EchoIs line t 0 o p l k e → EchoIs (take k l) u e p q m k' e' → EchoIs line (t ++ u) 0 o q m k' e'
-echo_then line t u o p q l m k e k' e' x y =
-    let g : begun (take k l) u ≡ begun line (t ++ u) = ap (λ (s : List ℕ). begun s u) x.begun_is ∙ sym (begun_then line t u) in
-    let f : printed line t ++ printed (take k l) u ≡ printed line (t ++ u) = ap (λ (s : List ℕ). printed line t ++ printed s u) x.begun_is ∙ sym (printed_then line t u) in
+echo_then : (line t u o p q l m : List ℕ) (e e' : ℕ) → EchoIs line t 0 o p l e → EchoIs l u e p q m e' → EchoIs line (t ++ u) 0 o q m e'
+echo_then line t u o p q l m e e' x y =
+    let f : printed line t ++ printed l u ≡ printed line (t ++ u) = ap (λ (s : List ℕ). printed line t ++ printed s u) x.begun_is ∙ sym (printed_then line t u) in
     record {
-      kept_is = y.kept_is ∙ ap length g;
-      begun_is = y.begun_is ∙ g;
-      end_is = omega (arith, x.end_is, y.end_is, ap length (sym f), length-append (printed line t) (printed (take k l) u));
-      out_is = y.out_is ∙ ap (λ (s : List ℕ). write s e (printed (take k l) u)) x.out_is ∙ write_then o 0 (printed line t) (printed (take k l) u) e x.end_is ∙ ap (write o 0) f;
+      begun_is = y.begun_is ∙ ap (λ (s : List ℕ). begun s u) x.begun_is ∙ sym (begun_then line t u);
+      end_is = omega (arith, x.end_is, y.end_is, ap length (sym f), length-append (printed line t) (printed l u));
+      out_is = y.out_is ∙ ap (λ (s : List ℕ). write s e (printed l u)) x.out_is ∙ write_then o 0 (printed line t) (printed l u) e x.end_is ∙ ap (write o 0) f;
     }
 
 -- one byte of a text more
-pub echo_next : (text line o p q l m : List ℕ) (i k e k' e' : ℕ) → i < length text → EchoIs line (take i text) 0 o p l k e
-    → EchoIs (take k l) (get_or text i 0 ∷ []) e p q m k' e' → EchoIs line (take (i + 1) text) 0 o q m k' e'
-echo_next text line o p q l m i k e k' e' h x y = rw (add-one i, take-suc text i 0 h) (echo_then line (take i text) (get_or text i 0 ∷ []) o p q l m k e k' e' x y)
+pub echo_next : (text line o p q l m : List ℕ) (i e e' : ℕ) → i < length text → EchoIs line (take i text) 0 o p l e → EchoIs l (get_or text i 0 ∷ []) e p q m e'
+    → EchoIs line (take (i + 1) text) 0 o q m e'
+echo_next text line o p q l m i e e' h x y = rw (add-one i, take-suc text i 0 h) (echo_then line (take i text) (get_or text i 0 ∷ []) o p q l m e e' x y)
 
 -- ---- the last line
 

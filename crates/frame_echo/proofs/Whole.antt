@@ -1,12 +1,11 @@
 -- An input that is read to its end, read by read. Assumes nothing.
 use mathlib.Core.Path.{◌≡◌, refl, sym, ap, subst, ◌∙◌}
-use mathlib.Core.Bool.{false, false≢true}
 use mathlib.Core.List.{List, [], ◌++◌, append_assoc, append-nil}
 use Prim.Native.Nat.{ℕ, ◌+◌, ◌≤◌}
 use native.Mathlib.Omega.{arith}
 use lib.ListN.{length, take, drop}
 use lib.Seq.{take_at}
-use Rattle.std.specs.Prelude.{Option, Some, None, Result, Ok, Err, OnOk, is_err}
+use Rattle.std.specs.Prelude.{Option, Some, None}
 use Rattle.std.specs.Io.KnownBytes.{Consumes, Appends, IsAtEnd}
 use Rattle.octets.specs.Octets.{write}
 use Rattle.octets.proofs.Places.{take_none, write_is}
@@ -36,23 +35,18 @@ appends_none : (a : Option (List ℕ)) → Appends a a []
 appends_none None = tt
 appends_none (Some a) = sym (append-nil a)
 
--- a write that did not fail
-pub at_ok : {T E : Type 0} {P : Type 0} (r : Result T E) → OnOk r P → false ≡ is_err r → P
-at_ok (Ok x) p e = p
-at_ok (Err x) p e = absurd (false≢true e)
-
 -- ---- what was read so far
 
--- it is echoed, and its begun line stands in front of the line's buffer
-pub record SoFar (left left' held held' : Option (List ℕ)) (line : List ℕ) (kept : ℕ) : Type 0 where
+-- it is echoed, and its begun line is kept
+pub record SoFar (left left' held held' : Option (List ℕ)) (line : List ℕ) : Type 0 where
   pub input : List ℕ
   pub read : Consumes left left' input
-  pub kept_is : take kept line ≡ begun [] input
+  pub begun_is : line ≡ begun [] input
   pub written : Appends held held' (printed [] input)
 
-pub nothing_yet : (left held : Option (List ℕ)) (line : List ℕ) → SoFar left left held held line 0
+pub nothing_yet : (left held : Option (List ℕ)) (line : List ℕ) → line ≡ [] → SoFar left left held held line
 unfolding begun printed
-nothing_yet left held line = record { input = []; read = consumes_none left; kept_is = take_none line; written = appends_none held }
+nothing_yet left held line e = record { input = []; read = consumes_none left; begun_is = e; written = appends_none held }
 
 -- bytes that are written to the front of the output
 front : (out out' bytes : List ℕ) (end : ℕ) → out' ≡ write out 0 bytes → end ≡ length bytes → length bytes ≤ length out → take end out' ≡ bytes
@@ -60,17 +54,16 @@ front out out' bytes end w e h =
     ap (take end) (w ∙ write_is out 0 bytes (omega arith) ∙ ap (λ (l : List ℕ). l ++ (bytes ++ drop (0 + length bytes) out)) (take_none out)) ∙ take_at bytes _ end (sym e)
 
 -- one read more
-pub more_read : {left mid left' held half held' : Option (List ℕ)} {line line' bytes out out' : List ℕ} {kept kept' end : ℕ} → SoFar left mid held half line kept
-    → Consumes mid left' bytes → EchoIs (take kept line) bytes 0 out out' line' kept' end → end ≤ length out → Appends half held' (take end out')
-    → SoFar left left' held held' line' kept'
-more_read {left} {mid} {left'} {held} {half} {held'} {line} {line'} {bytes} {out} {out'} {kept} {kept'} {end} s c e h a =
+pub more_read : {left mid left' held half held' : Option (List ℕ)} {line line' bytes out out' : List ℕ} {end : ℕ} → SoFar left mid held half line → Consumes mid left' bytes
+    → EchoIs line bytes 0 out out' line' end → end ≤ length out → Appends half held' (take end out') → SoFar left left' held held' line'
+more_read {left} {mid} {left'} {held} {half} {held'} {line} {line'} {bytes} {out} {out'} {end} s c e h a =
     let is : take end out' ≡ printed (begun [] s.input) bytes =
-    front out out' (printed (take kept line) bytes) end e.out_is (omega (arith, e.end_is)) (omega (arith, e.end_is)) ∙ ap (λ (l : List ℕ). printed l bytes) s.kept_is
+    front out out' (printed line bytes) end e.out_is (omega (arith, e.end_is)) (omega (arith, e.end_is)) ∙ ap (λ (l : List ℕ). printed l bytes) s.begun_is
     in
     record {
       input = s.input ++ bytes;
       read = consumes_then left mid left' s.input bytes s.read c;
-      kept_is = e.begun_is ∙ ap (λ (l : List ℕ). begun l bytes) s.kept_is ∙ sym (begun_then [] s.input bytes);
+      begun_is = e.begun_is ∙ ap (λ (l : List ℕ). begun l bytes) s.begun_is ∙ sym (begun_then [] s.input bytes);
       written = subst (Appends held held') (ap (λ (l : List ℕ). printed [] s.input ++ l) is ∙ sym (printed_then [] s.input bytes))
           (appends_then held half held' (printed [] s.input) (take end out') s.written a);
     }
@@ -80,11 +73,11 @@ pub last_room : (line : List ℕ) (end n : ℕ) → end ≡ length (last line) �
 last_room line end n e h = omega (arith, e, h, last_most line)
 
 -- the end
-pub all_read : {left mid left' held half held' : Option (List ℕ)} {line bytes out' : List ℕ} {kept end : ℕ} (out : List ℕ) → SoFar left mid held half line kept
-    → Consumes mid left' bytes → bytes ≡ [] → IsAtEnd left' → out' ≡ write out 0 (last (take kept line)) → end ≡ length (last (take kept line)) → end ≤ length out
+pub all_read : {left mid left' held half held' : Option (List ℕ)} {line bytes out' : List ℕ} {end : ℕ} (out : List ℕ) → SoFar left mid held half line
+    → Consumes mid left' bytes → bytes ≡ [] → IsAtEnd left' → out' ≡ write out 0 (last line) → end ≡ length (last line) → end ≤ length out
     → Appends half held' (take end out') → InputEchoed left left' held held'
-all_read {left} {mid} {left'} {held} {half} {held'} {line} {bytes} {out'} {kept} {end} out s c z t w n h a =
-    let is : take end out' ≡ last (begun [] s.input) = front out out' (last (take kept line)) end w n (omega (arith, n, h)) ∙ ap last s.kept_is in
+all_read {left} {mid} {left'} {held} {half} {held'} {line} {bytes} {out'} {end} out s c z t w n h a =
+    let is : take end out' ≡ last (begun [] s.input) = front out out' (last line) end w n (omega (arith, n, h)) ∙ ap last s.begun_is in
     record {
       input = s.input;
       read = subst (Consumes left left') (ap (λ (l : List ℕ). s.input ++ l) z ∙ append-nil s.input) (consumes_then left mid left' s.input bytes s.read c);

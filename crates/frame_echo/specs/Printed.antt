@@ -30,9 +30,8 @@ unfoldable pub last : List ℕ → List ℕ
 last [] = []
 last (b ∷ line) = echoed (b ∷ line)
 
--- Behind a begun line came some bytes: what is begun now stands in front of the line's buffer, and what is printed stands in the output from the place `at` on
-pub record EchoIs (line bytes : List ℕ) (at : ℕ) (out out' buffer : List ℕ) (kept end : ℕ) : Type 0 where
-  pub kept_is : kept ≡ length (begun line bytes)
-  pub begun_is : take kept buffer ≡ begun line bytes
+-- Behind a begun line came some bytes: what is begun now is the line afterwards, and what is printed stands in the output from the place `at` on
+pub record EchoIs (line bytes : List ℕ) (at : ℕ) (out out' line' : List ℕ) (end : ℕ) : Type 0 where
+  pub begun_is : line' ≡ begun line bytes
   pub end_is : end ≡ at + length (printed line bytes)
   pub out_is : out' ≡ write out at (printed line bytes)

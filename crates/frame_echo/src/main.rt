@@ -2,13 +2,14 @@
 // empty line, which no frame is: so each line of the input has its own in the output, and every frame comes out as it went in.
 #![tactic(auto)]
 
-ghost use Rattle.std.specs.Prelude.{◌≡◌, [], ◌∷◌, ◌+◌, ◌≤◌, length, take, OnOk};
+ghost use Rattle.std.specs.Prelude.{◌≡◌, [], ◌∷◌, ◌+◌, ◌≤◌, length, OnOk};
 ghost use Rattle.octets.specs.Octets.{write};
 ghost use Rattle.frame.specs.Frame.{read_frame};
 ghost use Rattle.frame.specs.Filled.{Filled};
 ghost use Rattle.frame_echo.specs.Printed.{echoed, last, EchoIs};
 ghost use Rattle.frame_echo.specs.Lines.{InputEchoed};
 
+use arrayvec::ArrayVec;
 use command::parse;
 use frame_reader::nomiluvar_read_frame;
 use frame_writer::write_frame;
@@ -33,53 +34,39 @@ fn echo(line: &[u8], out: &mut [u8], at: usize) -> usize
 {
     let mut frame = [0u8; 352];
     let n = rewrite(line, &mut frame);
-    put_hex(out, at, &frame, n);
+    put_hex(out, at, &frame[..n]);
     let end = at + 2 * n;
-    out[end] = 10;
+    out[end] = b'\n';
     end + 1
 }
 
-// How much of a begun line is kept, and where the output ends.
-#[derive(Drop)]
-struct Place {
-    kept: usize,
-    end: usize,
-}
-
-// Takes one byte: a line end ends the begun line, any other byte belongs to it.
-fn step(b: u8, line: &mut [u8], kept: usize, out: &mut [u8], at: usize) -> Place
-    requires { (length line.old ≡ 705) × (kept ≤ 705) × (at + (kept + 1) ≤ length out.old) }
-    ensures { EchoIs (take kept line.old) (b ∷ []) at out.old out.new line.new result.kept result.end }
+// Takes one byte, and gives the place behind what is printed: a line end ends the begun line, any other byte belongs to it. 705 bytes of a line are kept:
+// no frame has more than 704 digits.
+fn step(b: u8, line: &mut ArrayVec<u8, 705>, out: &mut [u8], at: usize) -> usize
+    requires { at + (length line.old.items + 1) ≤ length out.old }
+    ensures { EchoIs line.old.items (b ∷ []) at out.old out.new line.new.items result }
 {
-    if b == 10 {
-        let end = echo(&line[..kept], out, at);
-        return Place { kept: 0, end: end };
+    if b == b'\n' {
+        let end = echo(line.as_slice(), out, at);
+        line.clear();
+        return end;
     }
-    if kept < 705 {
-        line[kept] = b;
-        return Place {
-            kept: kept + 1,
-            end: at,
-        };
+    if !line.is_full() {
+        line.push(b);
     }
-    Place {
-        kept: kept,
-        end: at,
-    }
+    at
 }
 
 // Takes all bytes of a text.
-fn steps(text: &[u8], line: &mut [u8], kept: usize, out: &mut [u8]) -> Place
-    requires { (length line.old ≡ 705) × (kept ≤ 705) × (kept + length text.now ≤ length out.old) }
-    ensures { EchoIs (take kept line.old) text.now 0 out.old out.new line.new result.kept result.end }
+fn steps(text: &[u8], line: &mut ArrayVec<u8, 705>, out: &mut [u8]) -> usize
+    requires { length line.old.items + length text.now ≤ length out.old }
+    ensures { EchoIs line.old.items text.now 0 out.old out.new line.new.items result }
 {
-    let mut e = Place { kept: kept, end: 0 };
-    let mut i: usize = 0;
-    while i < text.len() {
-        e = step(text[i], line, e.kept, out, e.end);
-        i += 1;
+    let mut end = 0;
+    for b in text {
+        end = step(*b, line, out, end);
     }
-    e
+    end
 }
 
 // Echoes the last line, which has no end, where it has a byte.
@@ -87,16 +74,18 @@ fn finish(line: &[u8], out: &mut [u8]) -> usize
     requires { length line.now + 1 ≤ length out.old }
     ensures { (out.new ≡ write out.old 0 (last line.now)) × (result ≡ length (last line.now)) }
 {
-    if line.len() == 0 {
+    if line.is_empty() {
         return 0;
     }
     echo(line, out, 0)
 }
 
-// Why not all of an input was echoed: it could not be read, or the output could not be written.
-#[derive(Clone, Copy)]
+// Why not all of an input was echoed.
+#[derive(Debug, thiserror::Error, Drop)]
 enum Failure {
+    #[error("standard input cannot be read")]
     Unread,
+    #[error("standard output cannot be written")]
     Unwritten,
 }
 
@@ -105,56 +94,32 @@ fn echo_all<R: Read, W: Write>(input: &mut R, output: &mut W) -> Result<(), Fail
     ensures { OnOk result (InputEchoed (R.remaining input.old) (R.remaining input.new) (W.contents output.old) (W.contents output.new)) }
 {
     let mut text = [0u8; 4096];
-    let mut line = [0u8; 705];
+    let mut line: ArrayVec<u8, 705> = ArrayVec::new();
     let mut out = [0u8; 65536];
-    let mut kept: usize = 0;
-    let mut turns = u64::MAX;
-    while turns > 0 {
-        let n = match input.read(&mut text) {
-            Ok(n) => n,
-            Err(_) => return Err(Failure::Unread),
+    for _ in 0..u64::MAX {
+        let Ok(n) = input.read(&mut text) else {
+            return Err(Failure::Unread);
         };
         if n == 0 {
-            let end = finish(&line[..kept], &mut out);
-            if output.write_all(&out[..end]).is_err() {
+            let end = finish(line.as_slice(), &mut out);
+            let Ok(()) = output.write_all(&out[..end]) else {
                 return Err(Failure::Unwritten);
-            }
+            };
             return Ok(());
         }
-        let e = steps(&text[..n], &mut line, kept, &mut out);
-        kept = e.kept;
-        let end = e.end;
-        if output.write_all(&out[..end]).is_err() {
+        let end = steps(&text[..n], &mut line, &mut out);
+        let Ok(()) = output.write_all(&out[..end]) else {
             return Err(Failure::Unwritten);
-        }
-        turns -= 1;
+        };
     }
     Err(Failure::Unread)
-}
-
-// Says on standard error that the program ends before its input does.
-fn tell_unread(rt: &HostRuntime) {
-    let _ = rt
-        .stderr()
-        .write_all(b"frame_echo: standard input cannot be read\n");
-}
-
-// The same of standard output, where not all was written.
-fn tell_unwritten(rt: &HostRuntime) {
-    let _ = rt
-        .stderr()
-        .write_all(b"frame_echo: standard output cannot be written\n");
 }
 
 fn main(rt: HostRuntime) -> ExitCode {
     match echo_all(&mut rt.stdin(), &mut rt.stdout()) {
         Ok(()) => ExitCode::SUCCESS,
-        Err(Failure::Unread) => {
-            tell_unread(&rt);
-            ExitCode::FAILURE
-        }
-        Err(Failure::Unwritten) => {
-            tell_unwritten(&rt);
+        Err(failure) => {
+            let _ = eprintln!(rt; "frame_echo: {failure}");
             ExitCode::FAILURE
         }
     }

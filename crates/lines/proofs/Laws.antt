@@ -1,15 +1,17 @@
 -- Laws of lines and of the printed form. Assumes nothing.
 use mathlib.Core.Path.{◌≡◌, refl, sym, ap, ◌∙◌}
-use mathlib.Core.Bool.{Bool, true, false, true≢false, cond, ◌||◌}
+use mathlib.Core.Bool.{Bool, true, false, cond}
 use mathlib.Core.List.{List, [], ◌∷◌, ◌++◌, append_assoc, append-nil}
 use Prim.Native.Nat.{ℕ, zero, suc, ◌+◌, ◌*◌, ◌-◌, ◌/◌, ◌%◌, ◌≤◌, ◌<◌}
 use native.Mathlib.Numerals.{add-one}
 use native.Mathlib.Omega.{arith}
 use lib.Dec.{eqb}
 use lib.ListN.{length, take, drop, get_or, set, length-append, length-drop}
-use lib.Seq.{drop-cons, length-take-le, drop-drop, take-add}
+use lib.Seq.{drop-drop, take-add}
 use borrow.Author.Tests.{eq-eqb, ne_eqb, eqb-true}
-use Rattle.rules.specs.Command.{some?}
+use Rattle.std.proofs.Common.{Option, Some, None}
+use Rattle.std.specs.Option.{unwrap_or}
+use Rattle.memchr.specs.Find.{IsFirstByte, is_byte}
 use Rattle.octets.specs.Octets.{write}
 use Rattle.octets.proofs.Places.{write_then}
 use Rattle.frame.specs.Hex.{hex}
@@ -27,31 +29,20 @@ length_line (b ∷ t) = go (eqb b 10) (length_line t)
     go true h = omega arith
     go false h = omega arith
 
--- a byte that is no line end is passed
-pub pass_line : (s : List ℕ) (i : ℕ) → i < length s → (get_or s i 0 ≡ 10 → ⊥) → line_length (drop i s) ≡ suc (line_length (drop (i + 1) s))
+-- no byte before the n-th is a line end, and the n-th is, where there is one
+first_end : (s : List ℕ) (n : ℕ) → n ≤ length s → ((k : ℕ) → k < n → ¬ (get_or s k 0 ≡ 10)) → (n < length s → get_or s n 0 ≡ 10) → line_length s ≡ n
 unfolding line_length
-pass_line s i h n = rw (drop-cons s i 0 h, ne_eqb (get_or s i 0) 10 n, add-one)
+first_end [] n h none here = omega arith
+first_end (b ∷ t) zero h none here = rw (eq-eqb b 10 (here (omega arith)))
+first_end (b ∷ t) (suc n) h none here =
+    rw (ne_eqb b 10 (none 0 (omega arith)))
+    (ap suc (first_end t n (omega arith) (λ k l. none (suc k) (omega arith)) (λ l. here (omega arith))))
 
-pub end_line : (s : List ℕ) (i : ℕ) → i < length s → get_or s i 0 ≡ 10 → line_length (drop i s) ≡ 0
-unfolding line_length
-end_line s i h e = rw (drop-cons s i 0 h, eq-eqb (get_or s i 0) 10 e)
-
--- one byte more is looked at
-pub some_step : (l : List ℕ) (i : ℕ) → i < length l → some? (λ b. eqb b 10) (drop i l) ≡ eqb (get_or l i 0) 10 || some? (λ b. eqb b 10) (drop (i + 1) l)
-unfolding some?
-some_step l i h = rw (add-one, drop-cons l i 0 h)
-
--- bytes without a line end are passed at once
-pub pass_block : (n : ℕ) (l : List ℕ) → n ≤ length l → some? (λ b. eqb b 10) (take n l) ≡ false → line_length l ≡ n + line_length (drop n l)
-unfolding line_length some?
-pass_block zero l h e = omega arith
-pass_block (suc n) [] h e = absurd (omega arith)
-pass_block (suc n) (b ∷ t) h e = go (eqb b 10) (λ g. pass_block n t (omega arith) g) e
-  where
-    go : (q : Bool) → (some? (λ b. eqb b 10) (take n t) ≡ false → line_length t ≡ n + line_length (drop n t))
-        → q || some? (λ b. eqb b 10) (take n t) ≡ false → cond q 0 (suc (line_length t)) ≡ suc n + line_length (drop n t)
-    go true r g = absurd (true≢false g)
-    go false r g = omega (arith, r g)
+-- what `memchr` answers
+pub line_found : (s : List ℕ) (r : Option ℕ) → IsFirstByte (is_byte 10) s r → unwrap_or r (length s) ≡ line_length s
+line_found s None none = sym (first_end s (length s) (omega arith) (λ k l e. none k (omega arith) l (eq-eqb (get_or s k 0) 10 e)) (λ l. absurd (omega arith)))
+line_found s (Some n) (first, here) =
+    sym (first_end s n (omega (arith, first.high)) (λ k l e. first.before k (omega arith) l (eq-eqb (get_or s k 0) 10 e)) (λ l. eqb-true (get_or s n 0) 10 here))
 
 pub whole_first : (s : List ℕ) → line_length s < length s → whole_lines s ≡ take (line_length s) s ∷ whole_lines (drop (suc (line_length s)) s)
 unfolding line_length whole_lines
@@ -151,14 +142,14 @@ printed_length a r = omega (arith, length-append (hex r) (10 ∷ []), hex_length
 -- ---- what is written
 
 -- the two digits, the report and the end
-pub line_done : (o r out : List ℕ) (at a n p d e : ℕ) → n ≤ length r → p ≡ at + 2 + 2 * n → out ≡ write (set (set o at d) (at + 1) e) (at + 2) (hex (take n r))
-    → d ≡ 48 + a / 10 → e ≡ 48 + a % 10 → set out p 10 ≡ write o at (printed a (take n r))
+pub line_done : (o r out : List ℕ) (at a p d e : ℕ) → p ≡ at + 2 + 2 * length r → out ≡ write (set (set o at d) (at + 1) e) (at + 2) (hex r)
+    → d ≡ 48 + a / 10 → e ≡ 48 + a % 10 → set out p 10 ≡ write o at (printed a r)
 unfolding printed write
-line_done o r out at a n p d e long q w x y =
-    let len : p ≡ at + 2 + length (hex (take n r)) = omega (arith, hex_length (take n r), length-take-le n r long) in
+line_done o r out at a p d e q w x y =
+    let len : p ≡ at + 2 + length (hex r) = omega (arith, hex_length r) in
     let two : set (set o at d) (at + 1) e ≡ write o at (d ∷ e ∷ []) = write_two o at (at + 1) d e refl in
     let one : set out p 10 ≡ write out p (10 ∷ []) = refl in
-    let three : write out p (10 ∷ []) ≡ write (set (set o at d) (at + 1) e) (at + 2) (hex (take n r) ++ (10 ∷ [])) =
-    ap (λ (l : List ℕ). write l p (10 ∷ [])) w ∙ write_then (set (set o at d) (at + 1) e) (at + 2) (hex (take n r)) (10 ∷ []) p len in
-    one ∙ three ∙ ap (λ (l : List ℕ). write l (at + 2) (hex (take n r) ++ (10 ∷ []))) two
-    ∙ write_then o at (d ∷ e ∷ []) (hex (take n r) ++ (10 ∷ [])) (at + 2) refl ∙ rw (x, y)
+    let three : write out p (10 ∷ []) ≡ write (set (set o at d) (at + 1) e) (at + 2) (hex r ++ (10 ∷ [])) =
+    ap (λ (l : List ℕ). write l p (10 ∷ [])) w ∙ write_then (set (set o at d) (at + 1) e) (at + 2) (hex r) (10 ∷ []) p len in
+    one ∙ three ∙ ap (λ (l : List ℕ). write l (at + 2) (hex r ++ (10 ∷ []))) two
+    ∙ write_then o at (d ∷ e ∷ []) (hex r ++ (10 ∷ [])) (at + 2) refl ∙ rw (x, y)

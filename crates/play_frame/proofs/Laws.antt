@@ -2,40 +2,37 @@
 use mathlib.Core.Path.{◌≡◌, sym, subst}
 use mathlib.Core.List.{List, [], ◌∷◌}
 use Prim.Native.Nat.{ℕ}
+use Rattle.std.specs.Prelude.{Result}
 use lib.Dec.{T}
 use Rattle.rules.specs.Command.{Command}
+use Rattle.refusal.specs.declared.Refusal.{Refusal}
+use Rattle.refusal.specs.Answer.{answer_of}
 use Rattle.table.specs.declared.Table.{Table}
-use Rattle.table.specs.declared.Reply.{Reply}
-use Rattle.table.specs.Promise.{Called}
-use Rattle.ledger.specs.declared.Noted.{Noted}
-use Rattle.ledger.specs.declared.Stepped.{Stepped}
-use Rattle.ledger.specs.Promise.{Sound, Settled, Played}
+use Rattle.table.specs.Promise.{Calls}
+use Rattle.ledger.specs.declared.Ledger.{Ledger}
+use Rattle.ledger.specs.Promise.{SoundLedger, Played, Settles, Reports, length_of}
 use Rattle.ledger.specs.Calls.{plain, silent}
 use Rattle.ledger.proofs.Laws.{settled_table, played_silent, played_none}
 
--- of the commands cs that the bytes hold, and what came back
-module _ (cs : List Command) (t : Table) (ids days : List ℕ) (used : ℕ) (report : List ℕ) (r : Stepped) where
-  pub by_none : cs ≡ [] → Sound t ids days used → r ≡ record { answer = 1; table = t; used = used; report_len = 0 } → Played cs t ids days used report r ids days report
-  by_none e g i =
-      subst (λ x. Played cs t ids days used report x ids days report) (sym i)
-      (subst (λ ks. Played ks t ids days used report (record { answer = 1; table = t; used = used; report_len = 0 }) ids days report) (sym e)
-      (played_none t ids days used report g))
+-- of the commands cs that the bytes hold, and the result s
+module _ (cs : List Command) (l : Ledger) (report : List ℕ) (s : Result ℕ Refusal) where
+  pub by_none : cs ≡ [] → SoundLedger l → answer_of s ≡ 1 → length_of s ≡ 0 → Reports cs l report s l report
+  by_none e g a z =
+      rw (a, z)
+      (subst (λ ks. Played ks l.table l.book.ids l.book.days l.book.used report (record { answer = 1; table = l.table; used = l.book.used; report_len = 0 }) l.book.ids l.book.days report) (sym e)
+      (played_none l.table l.book.ids l.book.days l.book.used report g))
 
-  pub by_book : (k : Command) (n : Noted) (ids' days' : List ℕ) → cs ≡ k ∷ [] → T (silent k) → Settled k t ids days used n ids' days'
-      → r ≡ record { answer = n.answer; table = n.table; used = n.used; report_len = 0 } → Played cs t ids days used report r ids' days' report
-  by_book k n ids' days' e s p i =
-      subst (λ x. Played cs t ids days used report x ids' days' report) (sym i)
-      (subst (λ ks. Played ks t ids days used report (record { answer = n.answer; table = n.table; used = n.used; report_len = 0 }) ids' days' report) (sym e)
-      (played_silent k t ids days used report n ids' days' s p))
+  pub by_book : {X : Type 0} (k : Command) (r : Result X Refusal) (u : Ledger) → cs ≡ k ∷ [] → T (silent k) → Settles k l r u → answer_of s ≡ answer_of r → length_of s ≡ 0
+      → Reports cs l report s u report
+  by_book k r u e q p a z =
+      rw (a, z)
+      (subst (λ ks. Played ks l.table l.book.ids l.book.days l.book.used report (record { answer = answer_of r; table = u.table; used = u.book.used; report_len = 0 }) u.book.ids u.book.days report) (sym e)
+      (played_silent k l.table l.book.ids l.book.days l.book.used report _ u.book.ids u.book.days q p))
 
-  pub by_table : (k : Command) (o : Reply) → cs ≡ k ∷ [] → T (silent k) → T (plain k) → Sound t ids days used → Called k t o
-      → r ≡ record { answer = o.answer; table = o.table; used = used; report_len = 0 } → Played cs t ids days used report r ids days report
-  by_table k o e s p g c i = by_book k (record { answer = o.answer; table = o.table; used = used }) ids days e s (settled_table k t ids days used o p g c) i
+  pub by_table : {X : Type 0} (k : Command) (r : Result X Refusal) (t : Table) → cs ≡ k ∷ [] → T (silent k) → T (plain k) → SoundLedger l → Calls k l.table r t
+      → answer_of s ≡ answer_of r → length_of s ≡ 0 → Reports cs l report s (record { table = t; book = l.book }) report
+  by_table k r t e q p g c = by_book k r (record { table = t; book = l.book }) e q (settled_table k l.table l.book.ids l.book.days l.book.used _ p g c)
 
-  -- a query or a search: the table is the one that was given
-  pub by_report : (k : Command) (answer used' len : ℕ) (ids' days' report' : List ℕ) → cs ≡ k ∷ []
-      → Played (k ∷ []) t ids days used report (record { answer = answer; table = t; used = used'; report_len = len }) ids' days' report'
-      → r ≡ record { answer = answer; table = t; used = used'; report_len = len } → Played cs t ids days used report r ids' days' report'
-  by_report k answer used' len ids' days' report' e p i =
-      subst (λ x. Played cs t ids days used report x ids' days' report') (sym i)
-      (subst (λ ks. Played ks t ids days used report (record { answer = answer; table = t; used = used'; report_len = len }) ids' days' report') (sym e) p)
+  -- a query or a search
+  pub by_report : (k : Command) (u : Ledger) (report' : List ℕ) → cs ≡ k ∷ [] → Reports (k ∷ []) l report s u report' → Reports cs l report s u report'
+  by_report k u report' e p = subst (λ ks. Reports ks l report s u report') (sym e) p

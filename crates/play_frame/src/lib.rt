@@ -1,9 +1,10 @@
 // One frame, played on table, book and report buffer.
 #![tactic(auto)]
 
-ghost use Rattle.std.specs.Prelude.{◌≡◌};
-ghost use Rattle.frame.specs.Frame.{commands_of};
-ghost use Rattle.ledger.specs.Promise.{Sound, Played};
+ghost use Rattle.std.specs.Prelude.{◌≡◌, true};
+ghost use Rattle.frame.specs.Frame.{commands_of, is_frame};
+ghost use Rattle.refusal.specs.Answer.{answer_of};
+ghost use Rattle.ledger.specs.Promise.{SoundLedger, Reports, length_of};
 
 use call_accounts::{bank_open, branch_open};
 use call_bank_limits::bank_limits;
@@ -16,99 +17,67 @@ use call_payment::pay;
 use call_query::query;
 use call_search::search;
 use command::{Command, parse};
-use ledger::{Noted, Stepped};
-use message_inquiry::Asked;
-use table::{Reply, Table};
+use ledger::Ledger;
+use payment_frame::transfer_at;
+use payment_parties::Transfer;
+use refusal::Refusal;
 
-// A call on the table alone.
-fn on_table(o: Reply, used: usize) -> Stepped
-    ensures { result ≡ record { answer = o.answer; table = o.table; used = used; report_len = 0 } }
+// A call that has no report.
+fn unreported(call: Result<(), Refusal>) -> Result<usize, Refusal>
+    ensures answer { answer_of result ≡ answer_of call }
+    ensures none { length_of result ≡ 0 }
 {
-    let t = o.table;
-    Stepped {
-        answer: o.answer,
-        table: t,
-        used: used,
-        report_len: 0,
-    }
+    call.map(|()| 0)
 }
 
-// A call on table and book.
-fn on_book(n: Noted) -> Stepped
-    ensures { result ≡ record { answer = n.answer; table = n.table; used = n.used; report_len = 0 } }
-{
-    let t = n.table;
-    Stepped {
-        answer: n.answer,
-        table: t,
-        used: n.used,
-        report_len: 0,
-    }
-}
-
-// A query or a search, which leaves the table as it is.
-fn on_report(q: Asked, t: Table) -> Stepped
-    ensures { result ≡ record { answer = q.answer; table = t; used = q.used; report_len = q.report_len } }
-{
-    Stepped {
-        answer: q.answer,
-        table: t,
-        used: q.used,
-        report_len: q.report_len,
-    }
-}
-
-// Bytes that hold no command.
-fn ill_formed(t: Table, used: usize) -> Stepped
-    ensures { result ≡ record { answer = 1; table = t; used = used; report_len = 0 } }
-{
-    Stepped {
-        answer: 1,
-        table: t,
-        used: used,
-        report_len: 0,
-    }
-}
-
-// The command that the bytes hold is played; where they hold none, the answer is 1 and nothing changes.
-pub fn step(
-    t: Table,
-    ids: &mut [u8; 32768],
-    days: &mut [u32; 1024],
-    used: usize,
-    frame: &[u8],
-    report: &mut [u8],
-) -> Stepped
-    requires { Sound t ids.old days.old used }
-    ensures { Played (commands_of frame.now) t ids.old days.old used report.old result ids.new days.new report.new }
+// The command that the bytes hold is played; where they hold none, they are ill-formed, and nothing changes. The length of the report comes back.
+pub fn step(l: &mut Ledger, frame: &[u8], report: &mut [u8]) -> Result<usize, Refusal>
+    requires { SoundLedger l.old }
+    ensures { Reports (commands_of frame.now) l.old report.old result l.new report.new }
 {
     let order = parse(frame);
-    let command = order.command;
     let id = order.id;
     let accounts = order.accounts;
     let types = order.types;
     let values = order.values;
-    match command {
-        Command::Nothing => ill_formed(t, used),
-        Command::Bank(c) => on_table(bank_open(t, c), used),
-        Command::Branch(c, o, l, p) => on_table(branch_open(t, c, o, l, p), used),
-        Command::Funding(c, a) => on_table(fund(t, c, a), used),
-        Command::Withdrawal(c, a) => on_table(withdraw(t, c, a), used),
-        Command::BankLimits(c, l, p) => on_table(bank_limits(t, c, l, p), used),
-        Command::Payment(w, s, r, a) => on_table(pay(t, w, s, r, a), used),
-        Command::Change(h, n) => {
-            on_book(change(t, ids, days, used, h, id, accounts, types, values, n))
+    match order.command {
+        Command::Nothing => Err(Refusal::IllFormed),
+        Command::Bank(c) => unreported(bank_open(&mut l.table, c)),
+        Command::Branch(code, owner, ltk, lpo) => {
+            unreported(branch_open(&mut l.table, code, owner, ltk, lpo))
         }
-        Command::Deletion(h, kind) => {
-            on_book(deletion(t, ids, days, used, h, id, accounts, kind))
+        Command::Funding(c, a) => unreported(fund(&mut l.table, c, a)),
+        Command::Withdrawal(c, a) => unreported(withdraw(&mut l.table, c, a)),
+        Command::BankLimits(c, ltk, lpo) => unreported(bank_limits(&mut l.table, c, ltk, lpo)),
+        Command::Payment(way, sender, receiver, amount) => {
+            let transfer = Transfer {
+                way,
+                sender,
+                receiver,
+                amount,
+            };
+            unreported(pay(&mut l.table, transfer))
         }
-        Command::Query(h, n) => on_report(query(t, ids, days, used, h, id, accounts, n, report), t),
-        Command::Opening(d) => on_book(open(t, ids, days, used, d)),
-        Command::Search(h, n) => on_report(
-            search(t, ids, days, used, h, id, accounts, n, report),
-            t,
-        ),
-        Command::Letters(c, l) => on_table(set_letters(t, c, l), used),
-        Command::Mark(c) => on_table(mark_bank(t, c), used),
+        Command::Change(h, n) => unreported(change(l, h, id, accounts, types, values, n)),
+        Command::Deletion(h, kind) => unreported(deletion(l, h, id, accounts, kind)),
+        Command::Query(h, n) => query(l, h, id, accounts, n, report),
+        Command::Opening(day) => unreported(open(l, day)),
+        Command::Search(h, n) => search(l, h, id, accounts, n, report),
+        Command::Letters(c, letters) => unreported(set_letters(&mut l.table, c, letters)),
+        Command::Mark(c) => unreported(mark_bank(&mut l.table, c)),
+    }
+}
+
+// The same of bytes that are a frame. A payment's is taken apart without the arrays that other kinds need: most lines are payments, and one takes a tenth more
+// time through `step`.
+pub fn play(l: &mut Ledger, frame: &[u8], report: &mut [u8]) -> Result<usize, Refusal>
+    requires sound { SoundLedger l.old }
+    requires formed { is_frame frame.now ≡ true }
+    ensures { Reports (commands_of frame.now) l.old report.old result l.new report.new }
+{
+    if frame[0] == 6 {
+        unreported(pay(&mut l.table, transfer_at(frame)))
+    } else {
+        step(l, frame, report)
     }
 }

@@ -12,8 +12,7 @@ use Rattle.octets.proofs.Places.{write_then, write_length}
 use Rattle.rules.specs.Machine.{Machine, Outcome}
 use Rattle.frame.specs.Frame.{commands_of, line_frame}
 use Rattle.table.specs.declared.Table.{Table}
-use Rattle.ledger.specs.declared.Stepped.{Stepped}
-use Rattle.ledger.specs.Promise.{Sound, Played}
+use Rattle.ledger.specs.Promise.{Stepped, Sound, Played}
 use Rattle.ledger.specs.View.{view_of, outcome_of, next_of}
 use Rattle.ledger.proofs.Bytes.{book_bytes}
 use Rattle.ledger.proofs.Laws.{answer_small}

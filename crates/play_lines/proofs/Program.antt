@@ -12,9 +12,8 @@ use Rattle.table.specs.declared.Table.{Table}
 use Rattle.ledger.specs.declared.Ledger.{Ledger}
 use Rattle.ledger.specs.Promise.{Sound, SoundLedger}
 use Rattle.ledger.specs.View.{view_of, ledger_view}
-use Rattle.play_lines.specs.declared.Ran.{Ran}
 use Rattle.play_lines.specs.Lines.{played, line_outcomes, printed_all, printed_lines}
-use Rattle.play_lines.specs.Run.{RanIs}
+use Rattle.play_lines.specs.Run.{Ran, RanIs}
 use Rattle.play_lines.specs.Program.{Reached, Runs, start, then}
 use Rattle.play_lines.proofs.Sequence.{played_append, printed_append}
 

@@ -7,9 +7,8 @@ use Rattle.table.specs.declared.Table.{Table}
 use Rattle.ledger.specs.declared.Ledger.{Ledger}
 use Rattle.ledger.specs.Promise.{Sound, SoundLedger}
 use Rattle.ledger.specs.View.{view_of, ledger_view}
-use Rattle.play_lines.specs.declared.Ran.{Ran}
 use Rattle.play_lines.specs.Lines.{played, printed_all, printed_lines, calls_in, of_calls}
-use Rattle.play_lines.specs.Run.{RanIs}
+use Rattle.play_lines.specs.Run.{Ran, RanIs}
 
 -- the record is the history machine after these lines, from the sound machine s on
 pub record Reached (s : Machine) (ls : List (List ℕ)) (t : Table) (ids days : List ℕ) (used : ℕ) : Type 0 where

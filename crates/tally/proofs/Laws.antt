@@ -3,16 +3,18 @@ use mathlib.Core.Path.{◌≡◌, refl, sym, ap, ap₂, subst, ◌∙◌}
 use mathlib.Core.Bool.{Bool, true, false, cond, false≢true}
 use mathlib.Core.Logic.{◌⊎◌, inl, inr}
 use mathlib.Core.List.{List, [], ◌∷◌, ◌++◌, append_assoc, append-nil}
-use Prim.Native.Nat.{ℕ, zero, suc, ◌+◌, ◌*◌, ◌≤◌, ◌<◌}
+use Prim.Native.Nat.{ℕ, zero, suc, ◌+◌, ◌*◌, ◌-◌, ◌≤◌, ◌<◌}
 use native.Mathlib.Omega.{arith}
 use lib.Dec.{eqb}
-use lib.ListN.{length, take, drop, length-take, length-drop}
-use lib.Seq.{take-add, take_at, drop_at, length-take-le}
+use lib.ListN.{length, take, drop, length-take, length-drop, length-append}
+use lib.Seq.{take-add, take_at, drop_at, take-take, length-take-le}
+use borrow.Rule.Slice.PartMut.{put_mid}
 use borrow.Author.Tests.{eq-eqb, eqb-true}
 use Rattle.std.specs.Prelude.{Option, Some, None, Result, Ok, Err, OnOk, is_ok, is_err}
 use Rattle.std.specs.Io.KnownBytes.{Consumes, Appends, IsAtEnd, ReadConsumes}
 use Rattle.std.specs.Result.{result_unwrap_or}
 use Rattle.std.specs.declared.io.Error.{Error}
+use Rattle.std.proofs.lemmas.Slice.{take-put_mid_below}
 use Rattle.octets.specs.Octets.{write}
 use Rattle.octets.proofs.Places.{take_none, write_is, write_length}
 use Rattle.rules.specs.Machine.{empty}
@@ -21,14 +23,12 @@ use Rattle.ledger.specs.Promise.{SoundLedger}
 use Rattle.ledger.specs.View.{ledger_view}
 use Rattle.lines.specs.Text.{answer_room}
 use Rattle.tally_kept.specs.Kept.{last_end}
-use Rattle.tally_feed.specs.declared.Fed.{Fed}
-use Rattle.tally_feed.specs.Feed.{FedIs}
+use Rattle.tally_feed.specs.Feed.{Fed, FedIs}
 use Rattle.tally_feed.specs.Reads as Fed
 use Rattle.tally_feed.specs.Reads.{begun, Reads, start, next}
 use Rattle.tally_feed.proofs.Theorem.{input_answered, same_end, none_left}
-use Rattle.tally.specs.declared.progress.Progress.{Progress}
-use Rattle.tally.specs.Progress.{started, written, broken, Ready, PlayedIs, PutIs, wrote, unwritten, AllAnswered, Over, WholeAnswered}
-use Rattle.tally.specs.ReadOn.{ReadIs, Rests, ReadOnIs, stays, ends, reads, fails, none}
+use Rattle.tally.specs.Progress.{Progress, started, written, broken, Ready, PlayedIs, PutIs, wrote, unwritten, AllAnswered, Over, WholeAnswered}
+use Rattle.tally.specs.ReadOn.{ReadIs, Rests, ReadOnIs, taken, took, stays, ends, reads, fails, none}
 
 -- ---- the buffer
 
@@ -84,8 +84,63 @@ read_last {buf = buf} {buf' = buf'} {left = left} {n = n} mid h l t e k z c =
       none_left = λ _. c;
     }
 
+-- a read behind the first `left` bytes left mid there
+module _ (buf mid : List ℕ) (left : ℕ) (h : left < length buf) (m : length mid ≡ length buf - left) where
+  stays_long : left ≡ length (take left buf)
+  stays_long = sym (length-take-le left buf (omega arith))
+
+  no_more : length (drop (length buf - left) (drop left buf)) ≡ 0
+  no_more = omega (arith, length-drop (length buf - left) (drop left buf), length-drop left buf)
+
+  pub read_long : length (put_mid left (length buf - left) buf mid) ≡ length buf
+  read_long =
+      let rest = mid ++ drop (length buf - left) (drop left buf) in
+      let all : length (put_mid left (length buf - left) buf mid) ≡ length (take left buf) + length rest = length-append (take left buf) rest in
+      omega (arith, all, length-append mid (drop (length buf - left) (drop left buf)), no_more, stays_long, m)
+
+  pub read_stays : take left (put_mid left (length buf - left) buf mid) ≡ take left buf
+  read_stays = take-put_mid_below left (length buf - left) buf mid left (omega arith) (omega arith)
+
+  read_behind : take (length mid) (drop left (put_mid left (length buf - left) buf mid)) ≡ mid
+  read_behind =
+      ap (take (length mid)) (drop_at (take left buf) (mid ++ drop (length buf - left) (drop left buf)) left (sym stays_long))
+      ∙ take_at mid (drop (length buf - left) (drop left buf)) (length mid) refl
+
+  module _ {known known' : Option (List ℕ)} where
+    pub read_failed : (x : Error)
+        → ReadIs known known' buf left (record { said = Err x; n = 0; ended = false; failed = true }) (put_mid left (length buf - left) buf mid)
+    read_failed x = record {
+      long = read_long;
+      stays = read_stays;
+      within = omega arith;
+      failed_is = refl;
+      last = λ e. absurd (false≢true e);
+      more = λ f g. absurd (false≢true (sym f));
+      taken = λ f g. absurd (false≢true (sym f));
+      none_left = λ e. absurd (false≢true e);
+    }
+
+    pub read_some : {n : ℕ} → 0 < n → n ≤ length mid → Consumes known known' (take n mid)
+        → ReadIs known known' buf left (record { said = Ok n; n = n; ended = false; failed = false }) (put_mid left (length buf - left) buf mid)
+    read_some {n} z k c = record {
+      long = read_long;
+      stays = read_stays;
+      within = omega (arith, m);
+      failed_is = refl;
+      last = λ e. absurd (false≢true e);
+      more = λ f g. (z, refl);
+      taken = λ f g. subst (Consumes known known') (ap (take n) (sym read_behind) ∙ take-take n (length mid) (drop left (put_mid left (length buf - left) buf mid)) k) c;
+      none_left = λ e. absurd (false≢true e);
+    }
+
 pub failed : {p r : Progress} {buf buf' : List ℕ} {known known' : Option (List ℕ)} → r ≡ broken p → ReadOnIs p buf known (broken p) buf' known' → ReadOnIs p buf known r buf' known'
 failed {p} {r} {buf} {buf'} {known} {known'} e h = subst (λ (x : Progress). ReadOnIs p buf known x buf' known') (sym e) h
+
+pub took_is : {p r : Progress} {n : ℕ} {ended : Bool} (said : Result ℕ Error) {buf buf' : List ℕ} {known known' : Option (List ℕ)} → r ≡ taken p n ended → p.over ≡ false
+    → ReadOnIs p buf known (took p (record { said = said; n = n; ended = ended; failed = false })) buf' known' → ReadOnIs p buf known r buf' known'
+took_is {p} {r} {n} {ended} said {buf} {buf'} {known} {known'} e o h =
+    subst (λ (x : Progress). ReadOnIs p buf known x buf' known')
+    (sym (e ∙ ap (λ (b : Bool). record { fed = p.fed; n = n; ended = ended; over = b; failed = false; reads = p.reads - 1 }) o)) h
 
 -- ---- known bytes
 
@@ -215,6 +270,11 @@ from_fresh l {p} {buf} left held g e s =
     none : (b : List ℕ) → Reads empty l.table l.book.ids l.book.days l.book.used (take 0 b) [] []
     none [] = start g e
     none (x ∷ b) = start g e
+
+-- said of the book of one record, it is said of that of the same
+pub same_book : {left₀ left held₀ held : Option (List ℕ)} {p : Progress} {buf : List ℕ} (k l : Ledger) → k ≡ l → Standing left₀ left held₀ held p l.book.ids l.book.days buf
+    → Standing left₀ left held₀ held p k.book.ids k.book.days buf
+same_book {left₀} {left} {held₀} {held} {p} {buf} k l e = subst (λ (u : Ledger). Standing left₀ left held₀ held p u.book.ids u.book.days buf) (sym e)
 
 -- what `play` leaves of q
 abbrev pub after : Progress → Fed → Progress

@@ -1,14 +1,28 @@
 -- Where the program stands between its calls, and what is asked of whoever hands it on. Assumes nothing.
-use Rattle.std.specs.Prelude.{◌≡◌, true, false, ◌⊎◌, Option, List, ◌++◌, ℕ, ◌+◌, ◌≤◌, length, take, drop}
+use Rattle.std.specs.Prelude.{◌≡◌, Bool, true, false, ◌⊎◌, Option, List, ◌++◌, ℕ, ◌+◌, ◌≤◌, length, take, drop}
 use Rattle.std.specs.Io.KnownBytes.{Consumes, Appends, IsAtEnd}
 use Rattle.rules.specs.Machine.{empty}
 use Rattle.table.specs.declared.Table.{Table}
 use Rattle.tally_kept.specs.Kept.{last_end}
-use Rattle.tally_feed.specs.Feed.{FedIs}
+use Rattle.tally_feed.specs.Feed.{Fed, FedIs, fed_of}
 use Rattle.tally_feed.specs.Reads as Fed
 use Rattle.tally_feed.specs.Reads.{begun, input_lines, Answered}
-use Rattle.tally.specs.declared.progress.Progress.{Progress}
+use Rattle.tally.specs.declared.progress.Progress as Code
 use Rattle.tally.specs.declared.progress.Finished.{Finished}
+
+-- what `feed` gave last; how many bytes were read behind what it left; whether the input has ended; whether there is nothing left to do; whether a read or a
+-- write failed; how many reads may still be made
+pub record Progress : Type 0 where
+  pub fed : Fed
+  pub n : ℕ
+  pub ended : Bool
+  pub over : Bool
+  pub failed : Bool
+  pub reads : ℕ
+
+-- where the program stands, the book's arrays left out
+abbrev pub progress_of : Code.Progress → Progress
+progress_of p = record { fed = fed_of p.ledger p.counts; n = p.n; ended = p.ended; over = p.over; failed = p.failed; reads = p.reads }
 
 -- ---- the states, by equation
 
@@ -41,10 +55,6 @@ broken p = record { fed = p.fed; n = 0; ended = p.ended; over = true; failed = t
 -- where the input has ended and nothing is left
 abbrev pub done : Progress → Progress
 done p = record { fed = p.fed; n = 0; ended = true; over = true; failed = p.failed; reads = p.reads }
-
--- the end, with the record that was reached
-abbrev pub ended : Progress → Finished
-ended p = record { table = p.fed.table; used = p.fed.used; failed = p.failed }
 
 -- ---- what is asked
 
@@ -100,7 +110,7 @@ pub record Over (p : Progress) : Type 0 where
 
 -- so it is at the program's end
 abbrev pub Served : Finished → Type 0
-Served r = (r.failed ≡ true) ⊎ AllAnswered r.table r.used
+Served r = (r.failed ≡ true) ⊎ AllAnswered r.ledger.table r.ledger.book.used
 
 -- a record is that of an input that was read to its end, and the answers to all its lines are what was written: of what the input had left and the output held
 -- before and after, where that is known
@@ -116,4 +126,4 @@ pub record WholeAnswered (left left' held held' : Option (List ℕ)) (t : Table)
 
 -- so it is at the end: a read or a write failed, or the whole input is answered
 abbrev pub WholeServed : Option (List ℕ) → Option (List ℕ) → Option (List ℕ) → Option (List ℕ) → Finished → Type 0
-WholeServed left left' held held' r = (r.failed ≡ true) ⊎ WholeAnswered left left' held held' r.table r.used
+WholeServed left left' held held' r = (r.failed ≡ true) ⊎ WholeAnswered left left' held held' r.ledger.table r.ledger.book.used

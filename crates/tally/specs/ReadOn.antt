@@ -1,11 +1,17 @@
 -- What reading on leaves. Which bytes standard input gives no contract can say; of another input it is said, where the bytes that it has left are known. Assumes
 -- nothing.
-use Rattle.std.specs.Prelude.{◌≡◌, true, false, ◌⊎◌, List, ℕ, ◌+◌, ◌-◌, ◌≤◌, ◌<◌, Ok, Option, is_err, [], length, take, drop}
+use Rattle.std.specs.Prelude.{◌≡◌, Bool, true, false, ◌⊎◌, List, ℕ, ◌+◌, ◌-◌, ◌≤◌, ◌<◌, Result, Ok, Option, is_err, [], length, take, drop}
 use Rattle.std.specs.Io.KnownBytes.{Consumes, IsAtEnd}
+use Rattle.std.specs.declared.io.Error.{Error}
 use Rattle.tally_kept.specs.Kept.{last_end}
-use Rattle.tally.specs.declared.progress.Progress.{Progress}
-use Rattle.tally.specs.declared.progress.Got.{Got}
-use Rattle.tally.specs.Progress.{broken, done}
+use Rattle.tally.specs.Progress.{Progress, broken, done}
+
+-- a read: what it said, how many bytes are to be played behind those that were left, whether the input has ended, and whether the read failed
+pub record Got : Type 0 where
+  pub said : Result ℕ Error
+  pub n : ℕ
+  pub ended : Bool
+  pub failed : Bool
 
 -- The first `left` bytes stay. What `read` said decides: at an `Err` it failed; at `Ok 0` the input has ended, and the end that its last line lacks stands behind
 -- them; else as many bytes are read behind them, and the input has lost them
@@ -24,6 +30,10 @@ pub record Rests (p : Progress) (buf : List ℕ) : Type 0 where
   pub none_read : p.n ≡ 0
   pub none_waits : p.over ≡ false → p.fed.waiting ≡ 0
   pub room : p.over ≡ false → p.fed.read ≡ 0 → p.fed.left < length buf
+
+-- once a read left so many bytes, the last or not
+abbrev pub taken : Progress → ℕ → Bool → Progress
+taken p n ended = record { fed = p.fed; n = n; ended = ended; over = p.over; failed = false; reads = p.reads - 1 }
 
 -- once something was read
 abbrev pub took : Progress → Got → Progress

@@ -16,14 +16,12 @@ use Rattle.ledger.specs.View.{view_of}
 use Rattle.lines.specs.Text.{whole_lines, answer_room}
 use Rattle.lines.proofs.Laws.{joined_none}
 use Rattle.tally_kept.specs.Kept.{last_end}
-use Rattle.play_lines.specs.declared.Ran.{Ran}
 use Rattle.play_lines.specs.Lines.{commands_in, line_outcomes, printed_all, printed_lines}
 use Rattle.play_lines.specs.Program.{Reached}
-use Rattle.play_lines.specs.Run.{RanIs}
+use Rattle.play_lines.specs.Run.{Ran, RanIs}
 use Rattle.play_lines.proofs.Sequence.{printed_append}
 use Rattle.play_lines.proofs.Program.{start_reached, run_reached, wrote, front}
-use Rattle.tally_feed.specs.declared.Fed.{Fed}
-use Rattle.tally_feed.specs.Feed.{FedIs, text_of, left_of}
+use Rattle.tally_feed.specs.Feed.{Fed, FedIs, text_of, left_of}
 use Rattle.tally_feed.specs.Reads.{begun, input_lines, Reads, start, next, ReadsAnswered, InputAnswered, SameEnd, NoneLeft}
 use Rattle.tally_feed.proofs.Alike.{commands_each, answered}
 use Rattle.tally_feed.proofs.Begun.{all_begun, rest_begun, lines_on, begun_on, none_begun, none_take}

@@ -11,8 +11,7 @@ use Rattle.lines.specs.Text.{whole_lines, joined, answer_room}
 use Rattle.tally_kept.specs.Kept.{last_end}
 use Rattle.play_lines.specs.Lines.{printed_all, printed_lines, calls_in, of_calls}
 use Rattle.play_lines.specs.Program.{Reached}
-use Rattle.tally_feed.specs.declared.Fed.{Fed}
-use Rattle.tally_feed.specs.Feed.{text_of, FedIs}
+use Rattle.tally_feed.specs.Feed.{Fed, text_of, FedIs}
 
 -- the begun line of a text: what stands behind its last line end
 unfoldable pub begun : List ℕ → List ℕ

@@ -3,19 +3,16 @@
 
 ghost use Rattle.std.specs.Prelude.{◌+◌, ◌≤◌, length};
 ghost use Rattle.lines.specs.Text.{answer_room};
-ghost use Rattle.tally_feed.specs.Feed.{FedIs};
+ghost use Rattle.tally_feed.specs.Feed.{Feeds, fed_of};
 ghost use Rattle.tally_feed.specs.Reads.{SomeReady};
 
+use ledger::Ledger;
 use play_lines::play_lines;
-use table::Table;
 use tally_kept::keep;
 
-// The record beside the lent book; how many bytes in front of the text buffer are left; how many bytes were played last; how many bytes in front of the answer
-// buffer wait to be written.
-#[derive(Drop)]
-pub struct Fed {
-    pub table: Table,
-    pub used: usize,
+// How many bytes in front of the text buffer are left; how many bytes were played last; how many bytes in front of the answer buffer wait to be written.
+#[derive(Clone, Copy)]
+pub struct Counts {
     pub left: usize,
     pub read: usize,
     pub waiting: usize,
@@ -23,29 +20,15 @@ pub struct Fed {
 
 // Plays the whole lines of what was left and of the n bytes behind it, as long as `out` has room for the longest answer line; moves what is behind them to the
 // front. Where no line was played, there is none, and of the begun line its first 1,024 bytes are left.
-pub fn feed(
-    s: Fed,
-    ids: &mut [u8; 32768],
-    days: &mut [u32; 1024],
-    buf: &mut [u8],
-    n: usize,
-    out: &mut [u8],
-) -> Fed
-    requires { (SomeReady s ids.old days.old buf.old) × (s.left + n ≤ length buf.old) × (answer_room ≤ length out.old) }
-    ensures { FedIs s ids.old days.old buf.old n out.old result ids.new days.new buf.new out.new }
+pub fn feed(l: &mut Ledger, c: Counts, buf: &mut [u8], n: usize, out: &mut [u8]) -> Counts
+    requires { (SomeReady (fed_of l.old c) l.old.book.ids l.old.book.days buf.old) × (c.left + n ≤ length buf.old) × (answer_room ≤ length out.old) }
+    ensures { Feeds l.old c buf.old n out.old l.new result buf.new out.new }
 {
-    let table = s.table;
-    let used = s.used;
-    let len = s.left + n;
-    let r = play_lines(table, ids, days, used, &buf[..len], out);
-    let after = r.table;
-    let read = r.read;
-    let left = keep(buf, read, len);
-    Fed {
-        table: after,
-        used: r.used,
-        left: left,
-        read: read,
-        waiting: r.written,
+    let len = c.left + n;
+    let played = play_lines(l, &buf[..len], out);
+    Counts {
+        left: keep(buf, played.read, len),
+        read: played.read,
+        waiting: played.written,
     }
 }

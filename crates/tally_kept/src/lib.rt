@@ -3,23 +3,15 @@
 
 ghost use Rattle.std.specs.Prelude.{◌≡◌, ◌-◌, ◌<◌, ◌≤◌, length};
 ghost use Rattle.octets.specs.Octets.{part, write};
-ghost use Rattle.tally_kept.specs.Kept.{cut_length, kept_length, last_end};
+ghost use Rattle.tally_kept.specs.Kept.{kept_length, last_end};
 
-// A line that has 1,024 bytes holds no command, whatever comes: they stand for all of it.
-fn cut(n: usize) -> usize
-    ensures { result ≡ cut_length n }
-{
-    if n < 1024 { n } else { 1024 }
-}
-
-// How much is kept of the n bytes that stand from `from` on, where the lines before them were played.
+// How much is kept of the n bytes that stand from `from` on, where the lines before them were played. A line that has 1,024 bytes holds no command, whatever
+// comes: they stand for all of it.
+#[tactic(auto, unfolding(crate::specs::Kept::kept_length))]
 fn kept_length(from: usize, n: usize) -> usize
     ensures { result ≡ kept_length from n }
 {
-    if from == 0 {
-        return cut(n);
-    }
-    n
+    if from == 0 { n.min(1024) } else { n }
 }
 
 // Moves what stands from `from` up to `len` to the front, and gives how many bytes of it are kept: all, or its first 1,024 where no line was played, `from`
@@ -29,11 +21,7 @@ pub fn keep(buf: &mut [u8], from: usize, len: usize) -> usize
     ensures { (buf.new ≡ write buf.old 0 (part from (kept_length from (len - from)) buf.old)) × (result ≡ kept_length from (len - from)) }
 {
     let n = kept_length(from, len - from);
-    let mut i: usize = 0;
-    while i < n {
-        buf[i] = buf[from + i];
-        i += 1;
-    }
+    buf.copy_within(from..from + n, 0);
     n
 }
 

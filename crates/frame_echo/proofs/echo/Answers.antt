@@ -2,6 +2,7 @@ use mathlib.Core.Path.{◌≡◌}
 use Prim.Native.Nat.{◌+◌, ◌*◌, ◌≤◌}
 use native.Mathlib.Omega.{arith}
 use lib.ListN.{length}
+use lib.Seq.{length-take-le}
 use Rattle.frame.specs.Frame.{line_frame, given, read_frame}
 use Rattle.frame_echo.proofs.Laws.{frame_most, frame_half, read_front, echo_done}
 use Rattle.frame_echo.proofs.echo.Goals.{After-rewrite-n}
@@ -19,7 +20,9 @@ fits : (s : After-rewrite-n) → s.args.at + (2 * s.rewrite-n.result + 1) ≤ le
 fits s = omega (arith, count s, frame_half s.args.line.now, s.requires)
 
 pub put_hex-requires : goal.put_hex-requires
-put_hex-requires c = (omega (arith, fits (goal.at.put_hex-requires c).After-rewrite-n), omega (arith, most (goal.at.put_hex-requires c).After-rewrite-n))
+put_hex-requires c =
+    let s = (goal.at.put_hex-requires c).After-rewrite-n in
+    omega (arith, fits s, length-take-le s.rewrite-n.result s.rewrite-n.new.frame (omega (arith, most s, s.rewrite-n.auto.frame)))
 
 pub overflow_mul-end : goal.overflow_mul-end
 overflow_mul-end c = omega (arith, most (goal.at.overflow_mul-end c).After-rewrite-n)

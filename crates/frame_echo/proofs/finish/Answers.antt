@@ -1,16 +1,18 @@
-use mathlib.Core.Path.{refl}
+use mathlib.Core.Path.{◌≡◌, refl}
 use native.Mathlib.Omega.{arith}
+use lib.ListN.{length}
 use Rattle.octets.specs.Octets.{write}
 use Rattle.frame_echo.proofs.Begun.{last_none, last_some}
 use Rattle.frame_echo.proofs.finish.Goals as goal
 
-pub returns-then-line-eq0 : goal.returns-then-line-eq0
+pub returns-then-is_empty : goal.returns-then-is_empty
 unfolding write
-returns-then-line-eq0 c =
-    let e = last_none c.args.line.now c.if-line-eq0.true in
+returns-then-is_empty c =
+    let z : length c.args.line.now ≡ 0 = grind arith in
+    let e = last_none c.args.line.now z in
     (rw e refl, rw e refl)
 
 pub returns : goal.returns
 returns c =
-    let e = last_some c.args.line.now c.if-line-eq0.false in
+    let e = last_some c.args.line.now (λ z. grind arith) in
     (rw e c.echo.ensures.0, rw e (omega (arith, c.echo.ensures.1)))

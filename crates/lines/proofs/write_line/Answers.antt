@@ -9,7 +9,7 @@ pub bounds-out-at-2 : goal.bounds-out-at-2
 bounds-out-at-2 c = simp length-set (omega arith)
 
 pub put_hex-requires : goal.put_hex-requires
-put_hex-requires c = (simp length-set (omega arith), omega arith)
+put_hex-requires c = simp length-set (omega arith)
 
 pub bounds-out-end : goal.bounds-out-end
 bounds-out-end c = omega (arith, simp (write_length, length-set) at (ap length c.put_hex.ensures))
@@ -19,6 +19,6 @@ shape_of-out c = simp length-set (ap length c.put_hex.ensures ∙ simp (write_le
 
 pub returns : goal.returns
 returns c = (
-  line_done c.args.out.now c.args.report.now _ c.args.at c.args.answer c.args.n _ _ _ (omega arith) refl c.put_hex.ensures c.decimal_digit.ensures c.decimal_digit-2.ensures,
+  line_done c.args.out.now c.args.report.now _ c.args.at c.args.answer _ _ _ refl c.put_hex.ensures refl refl,
   omega arith,
 )

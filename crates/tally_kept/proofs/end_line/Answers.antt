@@ -1,7 +1,6 @@
 use mathlib.Core.Path.{◌≡◌, refl}
 use mathlib.Core.List.{[], ◌∷◌}
 use Prim.Native.Nat.{ℕ, zero, suc}
-use native.Mathlib.Omega.{arith}
 use lib.ListN.{length-set}
 use Rattle.octets.specs.Octets.{write}
 use Rattle.tally_kept.specs.Kept.{last_end}

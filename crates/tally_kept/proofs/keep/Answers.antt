@@ -1,30 +1,30 @@
--- The first i are moved, and the rest is as it was; all n are within the buffer. Assumes nothing.
-use mathlib.Core.Path.{◌≡◌, refl, ◌∙◌}
+-- All n are within the buffer. Assumes nothing.
+use mathlib.Core.Path.{refl, ap, ◌∙◌}
 use Prim.Native.Nat.{◌+◌, ◌-◌, ◌≤◌}
 use native.Mathlib.Omega.{arith}
-use borrow.Author.Rules.{rules}
-use lib.ListN.{length, length-set}
+use lib.ListN.{length}
 use Rattle.octets.specs.Octets.{part, write}
-use Rattle.octets.proofs.Places.{move_more}
-use Rattle.tally_kept.specs.Kept.{kept_length}
+use Rattle.octets.proofs.Places.{moved_front}
 use Rattle.tally_kept.proofs.Laws.{kept_most}
+use Rattle.tally_kept.proofs.keep.Goals.{After-kept_length-n}
 use Rattle.tally_kept.proofs.keep.Goals as goal
 
-pub loop-i-init : goal.loop-i-init
-unfolding part write
-loop-i-init c = (omega arith, omega (arith, c.kept_length-n.ensures, kept_most c.args.from (c.args.len - c.args.from)), refl, refl)
+within : (c : After-kept_length-n) → c.args.from + c.kept_length-n.result ≤ length c.args.buf.now
+within c = omega (arith, c.kept_length-n.ensures, kept_most c.args.from (c.args.len - c.args.from))
 
-pub overflow_add-buf : goal.overflow_add-buf
-overflow_add-buf c = omega (arith, c.well_formed)
+pub overflow_add-from : goal.overflow_add-from
+overflow_add-from c = omega (arith, c.well_formed, within (goal.at.overflow_add-from c).After-kept_length-n)
 
-pub loop-i-preserved : goal.loop-i-preserved
-loop-i-preserved c =
-    (omega arith, c.loop-i.invariant.1, length-set c.loop-i.buf c.loop-i.i _ ∙ c.loop-i.invariant.2, move_more c.args.buf.now c.loop-i.buf c.args.from c.loop-i.i c.loop-i.invariant.3 (omega arith))
+pub copy_within-requires-clause-in_bounds : goal.copy_within-requires-clause-in_bounds
+copy_within-requires-clause-in_bounds c = within (goal.at.copy_within-requires-clause-in_bounds c).After-kept_length-n
 
-pub shape_of-buf : goal.shape_of-buf
-shape_of-buf c = c.loop-i.invariant.2
+pub copy_within-requires-clause-dest_in_bounds : goal.copy_within-requires-clause-dest_in_bounds
+copy_within-requires-clause-dest_in_bounds c = omega (arith, within (goal.at.copy_within-requires-clause-dest_in_bounds c).After-kept_length-n)
 
 pub returns : goal.returns
-returns c =
-    let e : c.loop-i.i ≡ kept_length c.args.from (c.args.len - c.args.from) = omega (arith, c.kept_length-n.ensures) in
-    (rw e at c.loop-i.invariant.3, c.kept_length-n.ensures)
+returns c = (
+  c.copy_within.ensures.after
+      ∙ moved_front c.args.buf.now c.args.from c.kept_length-n.result _ refl (within (goal.at.returns c).After-kept_length-n)
+      ∙ ap (λ k. write c.args.buf.now 0 (part c.args.from k c.args.buf.now)) c.kept_length-n.ensures,
+  c.kept_length-n.ensures,
+)
