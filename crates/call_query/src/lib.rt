@@ -68,7 +68,8 @@ pub fn query(
     report: &mut [u8],
 ) -> Result<usize, Refusal>
     requires { SoundLedger l.old }
-    ensures { Reports (Query (to_header header id) (ids_from 0 n accounts) ∷ []) l.old report.old result l.new report.new }
+    ensures reports { Reports (Query (to_header header id) (ids_from 0 n accounts) ∷ []) l.old report.old result l.new report.new }
+    ensures table { l.new.table ≡ l.old.table }
 {
     query_checks(l, header, &id, &accounts, n, report.len())?;
     let length = put_report(&l.table, header.sender, accounts, n, report);

@@ -62,7 +62,8 @@ pub fn search(
     report: &mut [u8],
 ) -> Result<usize, Refusal>
     requires { SoundLedger l.old }
-    ensures { Reports (Search (to_header header id) (conditions_in n texts) ∷ []) l.old report.old result l.new report.new }
+    ensures reports { Reports (Search (to_header header id) (conditions_in n texts) ∷ []) l.old report.old result l.new report.new }
+    ensures table { l.new.table ≡ l.old.table }
 {
     let set = search_checks(l, header, &id, &texts, n, report.len())?;
     let length = put_search(&l.table, header.sender, set, report);

@@ -108,7 +108,7 @@ module _ (s : List ℕ) (from : ℕ) (ls : List (List ℕ)) (h : line_length (dr
   read_joined e =
       rw (joined_snoc, e, take-add from (line_length (drop from s) + 1) s, add-one, end_at (drop from s) h)
 
--- the same at the place e that `line_end` gives
+-- the same at the place e where the line ends
 module _ (s : List ℕ) (from e : ℕ) (is : e ≡ from + line_length (drop from s)) where
   pub no_line : length s ≤ e → whole_lines (drop from s) ≡ []
   no_line h = whole_none (drop from s) (omega (arith, length-drop from s))

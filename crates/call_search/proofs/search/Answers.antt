@@ -11,15 +11,15 @@ use Rattle.report_search.proofs.Found.{found_report, report_most}
 use Rattle.message_inquiry.proofs.Laws.{declined, reported}
 use Rattle.call_search.proofs.search.Goals as goal
 
-pub returns-in_err-set : goal.returns-in_err-set
-returns-in_err-set c = declined _ _ _ c.requires _ _ (search rules) c.in_err-set.ensures.says
+pub returns-in_err-set-clause-reports : goal.returns-in_err-set-clause-reports
+returns-in_err-set-clause-reports c = declined _ _ _ c.requires _ _ (search rules) c.in_err-set.ensures.says
 
 pub put_search-length-requires : goal.put_search-length-requires
 put_search-length-requires c = let r = c.in_ok-set.ensures.ready in (good_table _ _ _ _ c.requires, r.2, r.0)
 
-pub returns : goal.returns
+pub returns-clause-reports : goal.returns-clause-reports
 unfolding effect to_header ledger_view view_of report_of
-returns c =
+returns-clause-reports c =
     let cs = conditions_in c.args.n c.args.texts in
     let xs = accounts_of c.args.l.now.table in
     let r = found_report cs xs _ c.in_ok-set.ensures.set c.args.header.sender _ _ _ c.put_search-length.ensures in

@@ -100,7 +100,7 @@ returns-in-Deletion c =
 pub returns-in-Query : goal.returns-in-Query
 unfolding to_commands
 returns-in-Query c =
-    by_report (commands_of c.args.frame.now) c.args.l.now c.args.report.now c.query.result _ c.query.new.l c.query.new.report (sym c.parse-order.ensures ∙ ordered_is c.parse-order.result _ c.in-Query.is) c.query.ensures
+    by_report (commands_of c.args.frame.now) c.args.l.now c.args.report.now c.query.result _ c.query.new.l c.query.new.report (sym c.parse-order.ensures ∙ ordered_is c.parse-order.result _ c.in-Query.is) c.query.ensures.reports
 
 pub returns-in-Opening : goal.returns-in-Opening
 unfolding to_commands
@@ -111,7 +111,7 @@ returns-in-Opening c =
 pub returns-in-Search : goal.returns-in-Search
 unfolding to_commands
 returns-in-Search c =
-    by_report (commands_of c.args.frame.now) c.args.l.now c.args.report.now c.search.result _ c.search.new.l c.search.new.report (sym c.parse-order.ensures ∙ ordered_is c.parse-order.result _ c.in-Search.is) c.search.ensures
+    by_report (commands_of c.args.frame.now) c.args.l.now c.args.report.now c.search.result _ c.search.new.l c.search.new.report (sym c.parse-order.ensures ∙ ordered_is c.parse-order.result _ c.in-Search.is) c.search.ensures.reports
 
 pub returns-in-Letters : goal.returns-in-Letters
 unfolding to_commands
