@@ -12,7 +12,7 @@ ghost use Rattle.account_booking.specs.Side.{side_turnover};
 use account::{Account, Turnover};
 
 // Whose turnover a payment raises.
-#[derive(Clone, Copy, PartialEq, Eq)]
+#[derive(Clone, Copy)]
 pub enum Side {
     Payer,
     Payee,
@@ -63,7 +63,7 @@ pub fn start_up(x: Account, n: u64) -> Account
     with_start(x, x.start + n as i64)
 }
 
-// A withdrawal.
+// A withdrawal. Beside `start_up`, and no function of a signed change: each caller has an amount, which is above 0.
 pub fn start_down(x: Account, n: u64) -> Account
     requires { (Sized (to_account x)) × (n ≤ 10 ^ 15) }
     ensures { to_account result ≡ Rule.with_start ((to_account x).start -ℤ pos n) (to_account x) }

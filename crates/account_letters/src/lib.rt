@@ -6,7 +6,7 @@ ghost use Rattle.rules.specs.Letters as Letters;
 ghost use Rattle.account_letters.specs.View.{to_letter};
 
 // Each by its bit, 0 to 4. A byte is only asked for one letter and kept whole, so a set of flags would add a type and take no line away.
-#[derive(Clone, Copy, PartialEq, Eq)]
+#[derive(Clone, Copy)]
 pub enum Letter {
     A = 1,
     B = 2,

@@ -24,6 +24,7 @@ fn morning_value(method: u8, less: i64, v: i64) -> Limit
 }
 
 // A limit by its morning method; an adjusting one takes off `less`.
+#[tactic(auto, using(account::proofs::Laws::limit_small), unfolding(rules::specs::Day::morning, account::specs::View::to_limit))]
 fn morning(method: u8, less: i64, limit: Limit) -> Limit
     requires { (nat_abs less ≤ 2 * 10 ^ 17) × (T (limit_ok (to_limit limit))) }
     ensures { to_limit result ≡ Day.morning method less (to_limit limit) }

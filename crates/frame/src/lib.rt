@@ -8,6 +8,7 @@ use frame_fields::{at, conditions_at, is_code_at, rows_at, second_at};
 use rules::{is_letters, is_method};
 
 // Byte 0 is the kind. It chooses the fields behind it and, with them, the length. The cases are decimal: kind 13 is 19.
+// The match on the byte, by cases and ranges, is a form that the project's scope names.
 pub fn well_formed(b: &[u8]) -> bool
     ensures { result ≡ is_frame b.now }
 {

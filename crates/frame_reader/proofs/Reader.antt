@@ -7,7 +7,7 @@ use native.Mathlib.Omega.{arith}
 use native.Mathlib.Nat.{zero-add}
 use native.Mathlib.Numerals.{add-one}
 use borrow.Author.Tests.{le-leb, lt-leb, leb-true, leb-false, eq-eqb}
-use lib.ListN.{length, get_or, take, drop, set, length-take, drop_of_length-le}
+use lib.ListN.{length, get_or, take, drop, set, drop_of_length-le}
 use lib.Seq.{drop-cons, paste-suc, take_all, take_at}
 use lib.Dec.{leb, eqb}
 use Rattle.std.specs.Prelude.{Option, Some, None, MatchOption}
@@ -185,6 +185,3 @@ module _ (line entry exit : List ℕ) (m : ℕ) (f : Filled (unpacked line) entr
 -- what is no bytes is no frame
 pub unframed : (line : List ℕ) → is_packed line ≡ false → line_frame line ≡ []
 unframed line e = sym (line_frame_lem line) ∙ let n : unpacked line ≡ [] = unfold unpacked in rw e in rw n (no_bytes (is_frame []) [])
-
-pub frame_within : (line bytes : List ℕ) (n : ℕ) → FrameAt line bytes n → n ≤ length bytes
-frame_within line bytes n f = omega (arith, f.length_is, simp length-take at (ap length f.frame_is))

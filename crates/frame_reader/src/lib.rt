@@ -9,6 +9,7 @@ ghost use Rattle.frame_reader.specs.Unpacked.{DigitValues, is_packed, unpacked, 
 
 use digits::is_digit;
 use frame::frame_length;
+use std::marker::Model;
 
 // A lowercase hexadecimal digit.
 fn is_hex(d: u8) -> bool
@@ -29,61 +30,78 @@ fn all_hex(line: &[u8]) -> bool
 }
 
 // The value of each hexadecimal digit, at the digit's own place. It is made once for many lines: a look-up is faster than the sum.
-pub fn digit_values() -> [u8; 128]
+#[derive(Drop)]
+pub struct DigitTable {
+    pub values: [u8; 128],
+}
+
+impl Model for DigitTable {
+    ghost use Rattle.std.specs.Prelude.{List, ℕ};
+
+    ghost Value = { List ℕ };
+
+    ghost use Rattle.frame_reader.specs.Unpacked.{DigitValues};
+
+    ghost view = { λ a. a.values };
+
+    ghost invariant = { λ a. DigitValues a.values };
+}
+
+pub fn digit_values() -> DigitTable
     ensures { DigitValues result }
 {
     let mut values = [0u8; 128];
     for i in 0..128 {
         values[i] = (i % 16 + i / 64 * 9) as u8;
     }
-    values
+    DigitTable { values }
 }
 
 // The value of a hexadecimal digit.
-fn digit_value(values: &[u8], d: u8) -> u8
-    requires { (DigitValues values.now) × (is_hex d ≡ true) }
+fn digit_value(table: &DigitTable, d: u8) -> u8
+    requires { is_hex d ≡ true }
     ensures { (result ≡ nibble d) × (result < 16) }
 {
-    values[d as usize]
+    table.values[d as usize]
 }
 
 // The n bytes of a line of 2 * n hexadecimal digits. They are written by their places: a proof knows nothing of elements written through `iter_mut`.
-fn decode(line: &[u8], n: usize, buf: &mut [u8], values: &[u8])
-    requires { (length line.now ≡ 2 * n) × (n ≤ length buf.old) × (all_hex line.now ≡ true) × (DigitValues values.now) }
+fn decode(line: &[u8], n: usize, buf: &mut [u8], table: &DigitTable)
+    requires { (length line.now ≡ 2 * n) × (n ≤ length buf.old) × (all_hex line.now ≡ true) }
     ensures { buf.new ≡ unhex line.now ++ drop n buf.old }
 {
     for i in 0..n {
-        buf[i] = digit_value(values, line[2 * i]) * 16 + digit_value(values, line[2 * i + 1]);
+        buf[i] = digit_value(table, line[2 * i]) * 16 + digit_value(table, line[2 * i + 1]);
     }
 }
 
 // Writes the bytes that a line's digits are from byte 0 on and gives how many. Where the line is no even number of hexadecimal digits, or has over 704 of
 // them, it gives none and leaves the buffer as it was.
-fn unpack(line: &[u8], buf: &mut [u8], values: &[u8]) -> Option<usize>
-    requires { (352 ≤ length buf.old) × (DigitValues values.now) }
+fn unpack(line: &[u8], buf: &mut [u8], table: &DigitTable) -> Option<usize>
+    requires { 352 ≤ length buf.old }
     ensures { (is_some result ≡ is_packed line.now) × (Filled (unpacked line.now) buf.old buf.new (unwrap_or result 0)) }
 {
     let n = line.len() / 2;
     if line.len() % 2 != 0 || 352 < n || !all_hex(line) {
         return None;
     }
-    decode(line, n, buf, values);
+    decode(line, n, buf, table);
     Some(n)
 }
 
 // The length of the frame that a line is, which then stands in the buffer from byte 0 on; none where the line is no frame. The buffer gets the bytes that the
 // line's digits are, whether they are a frame or not.
-pub fn unpack_frame(line: &[u8], buf: &mut [u8], values: &[u8]) -> Option<usize>
-    requires { (352 ≤ length buf.old) × (DigitValues values.now) }
+pub fn unpack_frame(line: &[u8], buf: &mut [u8], table: &DigitTable) -> Option<usize>
+    requires { 352 ≤ length buf.old }
     ensures bytes { buf.new ≡ unpacked line.now ++ drop (length (unpacked line.now)) buf.old }
     ensures frame { MatchOption result (line_frame line.now ≡ []) (λ n. (is_frame (line_frame line.now) ≡ true) × FrameAt line.now buf.new n) }
 {
-    let n = unpack(line, buf, values)?;
+    let n = unpack(line, buf, table)?;
     frame_length(&buf[..n])
 }
 
 // Writes the frame that a line is from byte 0 on and returns its length. Where the line is no frame, or the buffer has under 352 bytes, it returns 0 and
-// leaves the buffer as it was.
+// leaves the buffer as it was. It gives a length for a shell in C, and so 0 in place of none.
 pub fn nomiluvar_read_frame(line: &[u8], frame: &mut [u8]) -> usize
     ensures { Filled (read_frame line.now (length frame.old)) frame.old frame.new result }
 {

@@ -18,7 +18,7 @@ pub fn bank_booked(x: Account, side: Side, p: Transfer) -> Account
     requires { (T (is_amount p.amount)) × (Rule.turnover (side_turnover side (Payment.is_credit p.way)) (to_account x).turnovers + nat_abs p.amount < 2 ^ 64) }
     ensures { to_account result ≡ Payment.raised (side_turnover side (Payment.is_credit p.way)) (nat_abs p.amount) (to_account x) }
 {
-    raised(x, side.turnover(p.way == 0), amount_of(p.amount))
+    raised(x, side.turnover(p.is_credit()), amount_of(p.amount))
 }
 
 // What a payment of n adds to a party's own account once its bank's has its part: nothing to a bank.
@@ -29,13 +29,14 @@ fn own_share(x: Account, n: u64) -> u64
 }
 
 // The party's own account with its share.
+#[tactic(auto, using(crate::proofs::Laws::share_most))]
 pub fn own_booked(x: Account, side: Side, p: Transfer) -> Account
     requires { (T (is_amount p.amount)) × (Rule.turnover (side_turnover side (Payment.is_credit p.way)) (to_account x).turnovers + nat_abs p.amount < 2 ^ 64) }
     ensures { to_account result ≡ Payment.raised (side_turnover side (Payment.is_credit p.way)) (share (to_account x) (nat_abs p.amount)) (to_account x) }
 {
     raised(
         x,
-        side.turnover(p.way == 0),
+        side.turnover(p.is_credit()),
         own_share(x, amount_of(p.amount)),
     )
 }

@@ -44,6 +44,7 @@ fn side_room(x: Account, b: Account, turnover: Turnover, n: u64) -> bool
 }
 
 // The others, of the payer x and its bank b, the payee y and its bank d. Where b is d, the bank loses nothing, and its limits are not asked.
+// The four stand apart, as in the rules' tests of them.
 #[tactic(auto, unfolding(crate::specs::Checks::party_checks, rules::specs::Machine::first_failure, account::specs::View::to_account))]
 pub fn late(
     credit: bool,

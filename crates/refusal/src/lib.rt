@@ -4,33 +4,33 @@
 ghost use Rattle.std.specs.Prelude.{◌≡◌, true, false, MatchResult};
 ghost use Rattle.refusal.specs.Answer.{number};
 
-// In the order of the numbers that the answers print.
-#[derive(Clone, Copy, Debug, PartialEq, Eq)]
+// Each by the number that the answers print.
+#[derive(Clone, Copy)]
 pub enum Refusal {
-    IllFormed,
-    CodeTaken,
-    TableFull,
-    Unknown,
-    NoBank,
-    OutOfRange,
-    ToItself,
-    NoRoom,
-    BankLtk,
-    BankLpo,
-    BranchLtk,
-    BranchLpo,
-    DayNotLater,
-    IdTaken,
-    NoHead,
-    IllFormedId,
-    NotCurrent,
-    MomentNotLater,
-    NoType,
-    NotOwned,
-    NothingFound,
-    BookFull,
-    Blocked,
-    MarkTaken,
+    IllFormed = 1,
+    CodeTaken = 2,
+    TableFull = 3,
+    Unknown = 4,
+    NoBank = 5,
+    OutOfRange = 6,
+    ToItself = 7,
+    NoRoom = 8,
+    BankLtk = 9,
+    BankLpo = 10,
+    BranchLtk = 11,
+    BranchLpo = 12,
+    DayNotLater = 13,
+    IdTaken = 14,
+    NoHead = 15,
+    IllFormedId = 16,
+    NotCurrent = 17,
+    MomentNotLater = 18,
+    NoType = 19,
+    NotOwned = 20,
+    NothingFound = 21,
+    BookFull = 22,
+    Blocked = 25,
+    MarkTaken = 26,
 }
 
 impl Refusal {
@@ -38,32 +38,7 @@ impl Refusal {
     pub fn number(self) -> u8
         ensures { result ≡ number self }
     {
-        match self {
-            Refusal::IllFormed => 1,
-            Refusal::CodeTaken => 2,
-            Refusal::TableFull => 3,
-            Refusal::Unknown => 4,
-            Refusal::NoBank => 5,
-            Refusal::OutOfRange => 6,
-            Refusal::ToItself => 7,
-            Refusal::NoRoom => 8,
-            Refusal::BankLtk => 9,
-            Refusal::BankLpo => 10,
-            Refusal::BranchLtk => 11,
-            Refusal::BranchLpo => 12,
-            Refusal::DayNotLater => 13,
-            Refusal::IdTaken => 14,
-            Refusal::NoHead => 15,
-            Refusal::IllFormedId => 16,
-            Refusal::NotCurrent => 17,
-            Refusal::MomentNotLater => 18,
-            Refusal::NoType => 19,
-            Refusal::NotOwned => 20,
-            Refusal::NothingFound => 21,
-            Refusal::BookFull => 22,
-            Refusal::Blocked => 25,
-            Refusal::MarkTaken => 26,
-        }
+        self as u8
     }
 }
 

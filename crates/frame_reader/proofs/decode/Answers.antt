@@ -8,10 +8,10 @@ use Rattle.frame_reader.proofs.Reader.{copy_more, hex_at, unhex_at, unhex_end, u
 use Rattle.frame_reader.proofs.decode.Goals as goal
 
 pub digit_value-requires : goal.digit_value-requires
-digit_value-requires c = (c.requires.3, hex_at c.args.line.now _ c.requires.2 (omega arith))
+digit_value-requires c = hex_at c.args.line.now _ c.requires.2 (omega arith)
 
 pub digit_value-requires-in-loop-i : goal.digit_value-requires-in-loop-i
-digit_value-requires-in-loop-i c = (c.requires.3, hex_at c.args.line.now _ c.requires.2 (omega arith))
+digit_value-requires-in-loop-i c = hex_at c.args.line.now _ c.requires.2 (omega arith)
 
 pub loop-i-preserved : goal.loop-i-preserved
 loop-i-preserved c =

@@ -6,4 +6,4 @@ use Rattle.octets.proofs.U16Octets2.of_octets.Goals as goal
 pub returns : goal.returns
 returns c =
     let n = c.from_be_bytes.result in
-    number_read 2 n c.args.octets (be_bytes_2 c.args.octets n (search rules) (search rules) c.from_be_bytes.ensures) c.from_be_bytes.type_inv
+    number_read 2 n c.args.octets.now (be_bytes_2 c.args.octets.now n (search rules) (search rules) c.from_be_bytes.ensures) c.from_be_bytes.type_inv

@@ -8,5 +8,5 @@ use Rattle.octets.proofs.U8Octets1.of_octets.Goals as goal
 
 pub returns : goal.returns
 returns c =
-    let e : length c.args.octets ≡ 1 = search rules in
-    sym (number_one 0 c.args.octets (omega arith)) ∙ ap number (part_whole 1 c.args.octets e)
+    let e : length c.args.octets.now ≡ 1 = search rules in
+    sym (number_one 0 c.args.octets.now (omega arith)) ∙ ap number (part_whole 1 c.args.octets.now e)
