@@ -1,5 +1,5 @@
 -- What a frame of a known kind holds: where its fields end, and the command. Assumes nothing.
-use mathlib.Core.Path.{◌≡◌, ap}
+use mathlib.Core.Path.{◌≡◌}
 use mathlib.Core.Bool.{true, false}
 use mathlib.Core.List.{List, [], ◌∷◌}
 use Prim.Native.Nat.{ℕ, ◌+◌, ◌<◌}
@@ -10,9 +10,6 @@ use Rattle.frame.specs.Field.{Field, size, width, may, are_fields}
 use Rattle.frame.specs.Frame.{Kind, K01, K02, K03, K04, K05, K06, K0a, K0c, K13, kind_byte, fields_of, layout, is_frame, commands_of}
 use Rattle.frame.proofs.Fields.{fields_within}
 pub use Rattle.frame.proofs.Commands.{kind_fields, kind_command}
-use Rattle.command.specs.declared.Command.{Command as Ordered}
-use Rattle.command.specs.declared.Order.{Order}
-use Rattle.command.specs.View.{to_commands, ordered}
 
 -- the place behind fields that begin at i
 unfoldable pub end : List Field → List ℕ → ℕ → ℕ
@@ -46,9 +43,3 @@ pub frame_lengths : (b : List ℕ) → is_frame b ≡ true
 unfolding kind_byte fields_of end width size
 frame_lengths b h =
     (kind_length K01 b h, kind_length K02 b h, kind_length K03 b h, kind_length K04 b h, kind_length K05 b h, kind_length K06 b h, kind_length K0a b h, kind_length K0c b h, kind_length K13 b h)
-
--- ---- an order by its command
-
-pub ordered_is : (o : Order) (c : Ordered) → o.command ≡ c → ordered o ≡ to_commands c o.id o.accounts o.types o.values
-unfolding ordered
-ordered_is o c e = ap (λ (d : Ordered). to_commands d o.id o.accounts o.types o.values) e

@@ -6,7 +6,6 @@ use Prim.Native.Nat.{ℕ, ◌+◌, ◌-◌, ◌≤◌}
 use native.Mathlib.Omega.{arith}
 use lib.ListN.{length, get_or, drop, length-drop, take-append-drop}
 use lib.Seq.{drop-drop, get_or-drop}
-use lib.IntN.{ℤ}
 use lib.Dec.{leb, eqb}
 use borrow.Author.Tests.{leb-true, eqb-true}
 use Rattle.octets.specs.Octets.{part}
@@ -20,9 +19,9 @@ use Rattle.frame.specs.Frame.{K0b, kind_byte, fields_of, is_frame, command_of, c
 use Rattle.frame.proofs.Texts.{conditions_append, conditions_most}
 use Rattle.command.specs.declared.Header.{Header}
 use Rattle.command.specs.declared.Command.TheVariants.{Search}
-use Rattle.command.specs.View.{to_commands}
+use Rattle.command.specs.View.{to_command}
 use Rattle.command.proofs.ByKind.{kind_fields, kind_command}
-use Rattle.command.proofs.Messages.{HeaderAt, header_is, rows_whole}
+use Rattle.command.proofs.Messages.{HeaderAt, rows_whole}
 
 -- so many conditions behind the count at 47, and nothing behind them
 pub record SearchAt (b : List ℕ) : Type 0 where
@@ -68,11 +67,10 @@ module _ (b : List ℕ) (good : is_frame b ≡ true) (e : get_or b 0 0 ≡ 11) w
       let p = rows_whole b w h in
       ap₂ conditions_in (ap (λ (l : List ℕ). get_or l 0 0) p ∙ get_or-drop 47 b 0 0) (ap (drop 1) p ∙ drop-drop 1 47 b)
 
-  pub search_held : (id a t : List ℕ) (v : List ℤ) (h : Header) → HeaderAt b h → id ≡ part 7 32 b → (n : ℕ) → n ≡ get_or b 47 0 → part 0 (length b - 48) a ≡ drop 48 b
-      → to_commands (Search h n) id a t v ≡ commands_of b
-  unfolding to_commands kind_byte fields_of command_of all_values value_of plain_value width size
-  search_held id a t v h head same n c f =
-      let w = conditions_width (get_or b 47 0) (drop 48 b) in
+  pub search_held : (h : Header) → HeaderAt b h → (n : ℕ) (texts : List ℕ) → n ≡ get_or b 47 0 → part 0 (length b - 48) texts ≡ drop 48 b
+      → to_command (Search h n texts) ∷ [] ≡ commands_of b
+  unfolding to_command kind_byte fields_of command_of all_values value_of plain_value width size
+  search_held h head n texts c f =
       ap (λ (k : Rule.Command). k ∷ [])
-      (ap₂ Rule.Search (header_is b id h head same) (ap (λ (k : ℕ). conditions_in k a) c ∙ kept a f ∙ sym (held w search_at.whole)))
+      (ap₂ Rule.Search head (ap (λ (k : ℕ). conditions_in k texts) c ∙ kept texts f ∙ sym (held (conditions_width (get_or b 47 0) (drop 48 b)) search_at.whole)))
       ∙ sym (kind_command K0b b good e)

@@ -1,24 +1,27 @@
--- The conditions of a search in an array: when they are in range, and their bytes, which stand there as they are. Assumes nothing.
+-- The conditions of a search in an array: when they are in range. Assumes nothing.
 use mathlib.Core.Path.{◌≡◌, refl, sym, ap, ap₂, ◌∙◌}
 use mathlib.Core.Bool.{Bool, true, false, ◌&&◌, and-true}
 use mathlib.Core.List.{List}
-use Prim.Native.Nat.{ℕ, zero, suc, ◌+◌, ◌-◌, ◌*◌, ◌^◌, ◌≤◌, ◌<◌, min}
+use Prim.Native.Nat.{ℕ, zero, suc, ◌+◌, ◌-◌, ◌*◌, ◌≤◌, ◌<◌, min}
 use native.Mathlib.Omega.{arith}
 use native.Mathlib.Decide.{dec_le}
 use lib.ListN.{length, drop, get_or, length-take, length-drop}
 use lib.Dec.{leb}
-use Rattle.octets.specs.Octets.{are_bytes, is_bytes, part}
+use mir.Syntax.{w8}
+use mir.Val.{Val, Fits}
+use denote.Shadow.{shadow}
+use Rattle.octets.specs.Octets.{are_bytes, part}
 use Rattle.octets.proofs.Numbers.{both, bytes_drop, bytes_part}
 use Rattle.octets.proofs.Places.{part_length}
 use Rattle.rules.specs.Command.{Search, every, is_code, is_header, is_form, is_condition, is_few, well_formed}
 use Rattle.rules.proofs.Selection.{formed}
-use Rattle.frame_fields.specs.Conditions.{first_width, first_of, conditions_in, conditions_width, are_conditions}
-use Rattle.frame.specs.Field.{conditions_bytes}
-use Rattle.frame.proofs.Texts.{conditions_count, conditions_front}
+use Rattle.frame_fields.specs.Conditions.{first_width, first_of, conditions_in, are_conditions}
+use Rattle.frame.proofs.Texts.{conditions_count}
 use Rattle.frame.proofs.Fields.{few_range}
+use Rattle.command.specs.contracts.Header as ByHeader
 use Rattle.command.specs.declared.Header.{Header}
 use Rattle.command.specs.View.{to_header}
-use Rattle.command.proofs.Forms.{header_formed}
+use Rattle.command.proofs.Forms.{bytes_fit, header_formed}
 
 -- ---- in range
 
@@ -61,20 +64,15 @@ conditions_range (suc n) v h b =
     width : is_form (get_or v 0 0) (get_or v 1 0) ≡ true → first_width v ≤ 12
     width f = omega (arith, (formed (get_or v 0 0) (get_or v 1 0) f).short)
 
--- ---- their bytes
-
-pub front_length : (n : ℕ) (v : List ℕ) → conditions_width n v ≤ length v → length (conditions_bytes (conditions_in n v)) ≡ conditions_width n v
-front_length n v h = ap length (conditions_front n v h) ∙ part_length 0 (conditions_width n v) v (omega arith)
-
 -- ---- a search
 
 pub few_most : (h : Header) (n : ℕ) → ((is_code h.sender && leb h.second 86399) && is_few n) ≡ true → (1 ≤ n) × (n ≤ 8)
 few_most h n e = few_range n (both (is_code h.sender && leb h.second 86399) (is_few n) e).1
 
-pub search_formed : (h : Header) (id : List ℕ) → is_bytes 32 id ≡ true → h.day < 2 ^ 32 → (n : ℕ) (v : List ℕ) → 96 < length v → are_bytes v ≡ true
-    → well_formed (Search (to_header h id) (conditions_in n v)) ≡ (((is_code h.sender && leb h.second 86399) && is_few n) && are_conditions n v)
+pub search_formed : (h : Header) (vs : List Val) → shadow (ByHeader.the_row.own_val h vs) → (n : ℕ) (v : List ℕ) → ((k : ℕ) → Fits w8 (get_or v k 0)) → length v ≡ 160
+    → well_formed (Search (to_header h) (conditions_in n v)) ≡ (((is_code h.sender && leb h.second 86399) && is_few n) && are_conditions n v)
 unfolding well_formed
-search_formed h id i d n v l b =
-    and_both (is_header (to_header h id) && is_few (length (conditions_in n v))) (every is_condition (conditions_in n v)) ((is_code h.sender && leb h.second 86399) && is_few n) (are_conditions n v)
-    (ap₂ ◌&&◌ (header_formed h id i d) (ap is_few (conditions_count n v)))
-    (λ e. conditions_range n v (omega (arith, (few_most h n e).1)) b)
+search_formed h vs t n v b l =
+    and_both (is_header (to_header h) && is_few (length (conditions_in n v))) (every is_condition (conditions_in n v)) ((is_code h.sender && leb h.second 86399) && is_few n) (are_conditions n v)
+    (ap₂ ◌&&◌ (header_formed h vs t) (ap is_few (conditions_count n v)))
+    (λ e. conditions_range n v (omega (arith, (few_most h n e).1)) (bytes_fit v b))

@@ -8,6 +8,7 @@ use lib.ListN.{length, take, drop, set, length-append}
 use lib.Seq.{take_at}
 use lib.Dec.{eqb, leb}
 use borrow.Author.Tests.{eqb-true, le-leb}
+use Rattle.std.specs.Prelude.{Option}
 use Rattle.octets.specs.Octets.{write}
 use Rattle.octets.proofs.Numbers.{both}
 use Rattle.octets.proofs.Places.{write_then}
@@ -20,8 +21,8 @@ use Rattle.frame.proofs.Lines.{unhex_bytes, hex_unhex}
 use Rattle.frame.proofs.OneToOneProof.{carries, carried}
 use Rattle.frame_reader.proofs.Reader.{unhex_length}
 use Rattle.hex_writer.proofs.Laws.{hex_length}
-use Rattle.command.specs.declared.Order.{Order}
-use Rattle.command.specs.View.{ordered}
+use Rattle.command.specs.declared.Command.{Command}
+use Rattle.command.specs.View.{commands}
 use Rattle.command.proofs.ByKind.{frame_some}
 use Rattle.frame_echo.specs.Printed.{is_line, echoed}
 
@@ -73,7 +74,7 @@ pub read_front : (line entry exit : List ℕ) (n : ℕ) → Filled (read_frame l
 unfolding read_frame given
 read_front line entry exit n w = ap (take n) w.bytes_are ∙ take_at (line_frame line) (drop (length (line_frame line)) entry) n (sym w.length_is)
 
-pub rewritten : (line : List ℕ) (o : Order) (room : ℕ) → ordered o ≡ commands_of (line_frame line) → write_frame (ordered o) room ≡ read_frame line room
+pub rewritten : (line : List ℕ) (o : Option Command) (room : ℕ) → commands o ≡ commands_of (line_frame line) → write_frame (commands o) room ≡ read_frame line room
 unfolding write_frame read_frame
 rewritten line o room e = ap (given room) (ap command_frame e ∙ frame_again line)
 

@@ -23,8 +23,7 @@ fn rewrite(line: &[u8], frame: &mut [u8]) -> usize
 {
     let mut read = [0u8; 352];
     let n = nomiluvar_read_frame(line, &mut read);
-    let order = parse(&read[..n]);
-    write_frame(order, frame)
+    write_frame(parse(&read[..n]), frame)
 }
 
 // Echoes a line from the place `at` on, and gives the place behind its end.

@@ -8,7 +8,7 @@ ghost use Rattle.frame_fields.specs.Conditions.{conditions_width, are_conditions
 ghost use Rattle.frame_fields.specs.Place.{six_digits, word_at};
 
 use digits::is_digit;
-use rules::{is_count, is_few, is_form};
+use rules::{is_count, is_form};
 
 // The byte at i, and 0 past the end.
 pub fn at(b: &[u8], i: usize) -> u8
@@ -44,12 +44,13 @@ pub fn second_at(b: &[u8], i: usize) -> bool
 }
 
 // Behind the header a count, and as many rows of `size` bytes, up to the end.
+#[tactic(auto, unfolding(rules::specs::Command::is_count))]
 pub fn rows_at(b: &[u8], size: usize) -> bool
     requires { size < 20 }
     ensures { result ≡ (is_count (get_or b.now 47 0) && eqb (length b.now) (47 + (1 + get_or b.now 47 0 * size))) }
 {
     let k = usize::from(at(b, 47));
-    is_count(k) & (b.len() == 47 + (1 + k * size))
+    is_count::<16>(k) & (b.len() == 47 + (1 + k * size))
 }
 
 // The place behind n conditions that begin at a place; none where one of them is ill-formed.
@@ -74,5 +75,5 @@ pub fn conditions_at(b: &[u8]) -> bool
     ensures { result ≡ ((is_few (get_or b.now 47 0) && are_conditions (get_or b.now 47 0) (drop 48 b.now)) && eqb (length b.now) (47 + (1 + conditions_width (get_or b.now 47 0) (drop 48 b.now)))) }
 {
     let k = usize::from(at(b, 47));
-    is_few(k) && conditions_end(b, 48, k) == Some(b.len())
+    is_count::<8>(k) && conditions_end(b, 48, k) == Some(b.len())
 }

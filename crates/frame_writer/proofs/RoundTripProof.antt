@@ -2,13 +2,13 @@
 use mathlib.Core.Path.{◌≡◌, refl, sym, ap, ◌∙◌}
 use mathlib.Core.Bool.{Bool, true, false, cond}
 use mathlib.Core.List.{List, [], ◌∷◌}
+use Rattle.std.specs.Prelude.{Option, Some, None}
 use mathlib.Core.Logic.{◌⊎◌, inl, inr}
 use Prim.Native.Nat.{ℕ, ◌<◌, ◌≤◌}
 use native.Mathlib.Omega.{arith}
 use lib.ListN.{length, take, drop}
 use lib.Seq.{take_at}
 use lib.Dec.{leb}
-use lib.IntN.{ℤ}
 use borrow.Author.Tests.{le-leb}
 use Rattle.octets.specs.Octets.{are_bytes}
 use Rattle.rules.specs.Command as Rule
@@ -17,36 +17,18 @@ use Rattle.frame.specs.Frame.{is_frame, frame_of, commands_of, given, command_fr
 use Rattle.frame.specs.Filled.{Filled}
 use Rattle.frame.proofs.OneToOneProof.{carries, carried, one_to_one}
 use Rattle.command.specs.declared.Command.{Command}
-use Rattle.command.specs.declared.Command.TheVariants.{Nothing, Bank, Branch, Funding, Withdrawal, BankLimits, Payment, Change, Deletion, Query, Opening, Search, Letters, Mark}
-use Rattle.command.specs.declared.Order.{Order}
-use Rattle.command.specs.View.{to_commands, ordered}
+use Rattle.command.specs.View.{commands}
 use Rattle.frame_writer.specs.RoundTrip.{RoundTrip}
 
--- ---- an order holds one command or none
+-- ---- one command or none
 
 abbrev AtMostOne : List Rule.Command → Type 0
 AtMostOne cs = (cs ≡ []) ⊎ ((c : Rule.Command) × (cs ≡ c ∷ []))
 
-at_most_one : (c : Command) (id a t : List ℕ) (v : List ℤ) → AtMostOne (to_commands c id a t v)
-unfolding to_commands
-at_most_one Nothing id a t v = inl refl
-at_most_one (Bank c) id a t v = inr (_, refl)
-at_most_one (Branch c o l p) id a t v = inr (_, refl)
-at_most_one (Funding c m) id a t v = inr (_, refl)
-at_most_one (Withdrawal c m) id a t v = inr (_, refl)
-at_most_one (BankLimits c l p) id a t v = inr (_, refl)
-at_most_one (Payment w s r m) id a t v = inr (_, refl)
-at_most_one (Change h n) id a t v = inr (_, refl)
-at_most_one (Deletion h u) id a t v = inr (_, refl)
-at_most_one (Query h n) id a t v = inr (_, refl)
-at_most_one (Opening d) id a t v = inr (_, refl)
-at_most_one (Search h n) id a t v = inr (_, refl)
-at_most_one (Letters c l) id a t v = inr (_, refl)
-at_most_one (Mark c) id a t v = inr (_, refl)
-
-ordered_one : (o : Order) → AtMostOne (ordered o)
-unfolding ordered
-ordered_one o = at_most_one o.command o.id o.accounts o.types o.values
+at_most_one : (o : Option Command) → AtMostOne (commands o)
+unfolding commands
+at_most_one None = inl refl
+at_most_one (Some c) = inr (_, refl)
 
 -- ---- what was written
 
@@ -74,30 +56,30 @@ front got entry exit r w = ap (take r) w.bytes_are ∙ take_at got (drop (length
 
 -- ---- together
 
-accepted : (o : Order) (c : Rule.Command) (entry exit : List ℕ) (r : ℕ) → ordered o ≡ c ∷ [] → well_formed c ≡ true → 352 ≤ length entry
-    → Filled (write_frame (ordered o) (length entry)) entry exit r → 0 < r
+accepted : (o : Option Command) (c : Rule.Command) (entry exit : List ℕ) (r : ℕ) → commands o ≡ c ∷ [] → well_formed c ≡ true → 352 ≤ length entry
+    → Filled (write_frame (commands o) (length entry)) entry exit r → 0 < r
 unfolding write_frame given command_frame frame_of
 accepted o c entry exit r e h room w =
-    let f : write_frame (ordered o) (length entry) ≡ frame_of c = rw (e, le-leb 352 (length entry) room, h) in
+    let f : write_frame (commands o) (length entry) ≡ frame_of c = rw (e, le-leb 352 (length entry) room, h) in
     omega (arith, w.length_is, ap length f)
 
-written_parsed : (o p : Order) (entry exit : List ℕ) (r : ℕ) → Filled (write_frame (ordered o) (length entry)) entry exit r → 0 < r
-    → ordered p ≡ commands_of (take r exit) → ordered p ≡ ordered o
-written_parsed o p entry exit r w h e = go (ordered_one o)
+written_parsed : (o p : Option Command) (entry exit : List ℕ) (r : ℕ) → Filled (write_frame (commands o) (length entry)) entry exit r → 0 < r
+    → commands p ≡ commands_of (take r exit) → commands p ≡ commands o
+written_parsed o p entry exit r w h e = go (at_most_one o)
   where
-    go : AtMostOne (ordered o) → ordered p ≡ ordered o
+    go : AtMostOne (commands o) → commands p ≡ commands o
     go (inl n) = absurd (omega (arith, w.length_is, ap (λ (cs : List Rule.Command). length (write_frame cs (length entry))) n, none_written (length entry)))
     go (inr d) =
         let g = ap (λ (cs : List Rule.Command). write_frame cs (length entry)) d.1 in
         let f = frame_written d.0 (length entry) (omega (arith, w.length_is, ap length g)) in
-        e ∙ ap commands_of (front (write_frame (ordered o) (length entry)) entry exit r w ∙ g ∙ f.1) ∙ one_to_one.frame_holds d.0 f.0 ∙ sym d.1
+        e ∙ ap commands_of (front (write_frame (commands o) (length entry)) entry exit r w ∙ g ∙ f.1) ∙ one_to_one.frame_holds d.0 f.0 ∙ sym d.1
 
-parsed_written : (b : List ℕ) (p : Order) (entry exit : List ℕ) (r : ℕ) → are_bytes b ≡ true → is_frame b ≡ true → 352 ≤ length entry
-    → ordered p ≡ commands_of b → Filled (write_frame (ordered p) (length entry)) entry exit r → Filled b entry exit r
+parsed_written : (b : List ℕ) (p : Option Command) (entry exit : List ℕ) (r : ℕ) → are_bytes b ≡ true → is_frame b ≡ true → 352 ≤ length entry
+    → commands p ≡ commands_of b → Filled (write_frame (commands p) (length entry)) entry exit r → Filled b entry exit r
 unfolding write_frame given command_frame
 parsed_written b p entry exit r a h room e w =
     let k = carries b a h in
-    let same : write_frame (ordered p) (length entry) ≡ b = rw (e ∙ carried b a h, le-leb 352 (length entry) room, k.in_range) k.framed in
+    let same : write_frame (commands p) (length entry) ≡ b = rw (e ∙ carried b a h, le-leb 352 (length entry) room, k.in_range) k.framed in
     rw same at w
 
 pub round_trip : RoundTrip

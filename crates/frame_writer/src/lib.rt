@@ -8,16 +8,16 @@ ghost use Rattle.rules.specs.Command.{is_code};
 ghost use Rattle.rules.specs.Message.{digits};
 ghost use Rattle.frame.specs.Frame.{command_frame, write_frame};
 ghost use Rattle.frame.specs.Filled.{Filled};
-ghost use Rattle.command.specs.View.{ordered};
+ghost use Rattle.command.specs.View.{to_command, commands};
 ghost use Rattle.octet_writer.specs.Written.{HasRoom, MovedAtMost, Wrote};
 
-use command::{Command, Order};
+use command::Command;
 use frame_code_writer::code_digits;
 use frame_message_writer::{write_change, write_deletion, write_query, write_search};
 use octet_writer::Writer;
 use rules::{is_code, is_letters, is_method};
 
-// 01 and 13: code. Like the others below, it writes the frame, or nothing of a command that is out of range.
+// 01 and 13: code. The kind is the byte that is written. Like the others below, it writes the frame, or nothing of a command that is out of range.
 fn write_code(w: &mut Writer, kind: u8, code: u32)
     requires { HasRoom 352 w.old }
     ensures moved { MovedAtMost 352 w.old w.new }
@@ -109,13 +109,12 @@ fn write_letters(w: &mut Writer, code: u32, letters: u8)
     }
 }
 
-fn write_command(w: &mut Writer, o: Order)
+fn write_command(w: &mut Writer, command: Command)
     requires { HasRoom 352 w.old }
     ensures moved { MovedAtMost 352 w.old w.new }
-    ensures wrote { Wrote (command_frame (ordered o)) w.old w.new }
+    ensures wrote { Wrote (command_frame (to_command command ∷ [])) w.old w.new }
 {
-    match o.command {
-        Command::Nothing => (),
+    match command {
         Command::Bank(code) => write_code(w, 1, code),
         Command::Branch(code, owner, ltk, lpo) => write_branch(w, code, owner, ltk, lpo),
         Command::Funding(code, amount) => write_amount(w, 3, code, amount),
@@ -124,25 +123,28 @@ fn write_command(w: &mut Writer, o: Order)
         Command::Payment(way, sender, receiver, amount) => {
             write_payment(w, way, sender, receiver, amount)
         }
-        Command::Change(h, n) => write_change(w, h, n, o.id, o.accounts, o.types, o.values),
-        Command::Deletion(h, limit) => write_deletion(w, h, limit, o.id, o.accounts),
-        Command::Query(h, n) => write_query(w, h, n, o.id, o.accounts),
+        Command::Change(h, n, items) => write_change(w, h, n, items),
+        Command::Deletion(h, account, kind) => write_deletion(w, h, account, kind),
+        Command::Query(h, n, ids) => write_query(w, h, n, ids),
         Command::Opening(day) => write_opening(w, day),
-        Command::Search(h, n) => write_search(w, h, n, o.id, o.accounts),
+        Command::Search(h, n, texts) => write_search(w, h, n, texts),
         Command::Letters(code, letters) => write_letters(w, code, letters),
         Command::Mark(code) => write_code(w, 19, code),
     }
 }
 
-// Writes the frame of an order's command from byte 0 on and returns its length. Where the command is none or out of range, or the buffer has under 352
-// bytes, it returns 0 and leaves the buffer as it was.
-pub fn write_frame(o: Order, frame: &mut [u8]) -> usize
-    ensures { Filled (write_frame (ordered o) (length frame.old)) frame.old frame.new result }
+// Writes the frame of a command from byte 0 on and returns its length. Where the command is none or out of range, or the buffer has under 352 bytes, it
+// returns 0 and leaves the buffer as it was: a length and no Option, for a shell in C, as the reader gives.
+pub fn write_frame(command: Option<Command>, frame: &mut [u8]) -> usize
+    ensures { Filled (write_frame (commands command) (length frame.old)) frame.old frame.new result }
 {
     if frame.len() < 352 {
         return 0;
     }
+    let Some(command) = command else {
+        return 0;
+    };
     let mut w = Writer::new(frame);
-    write_command(&mut w, o);
+    write_command(&mut w, command);
     w.len()
 }

@@ -6,13 +6,13 @@ use Rattle.frame.specs.Field.{size, width, plain_value, value_of, all_values}
 use Rattle.frame.specs.Frame.{K01, K02, K03, K04, K05, K06, K0a, K0c, K13, kind_byte, kinds, kinds_at, fields_of, command_of}
 use Rattle.frame.proofs.Commands.{kind_none, Rest, rest_none}
 use Rattle.amount.proofs.Integer.{back}
-use Rattle.command.specs.View.{to_commands, ordered}
+use Rattle.command.specs.View.{to_command, commands}
 use Rattle.octets.proofs.Places.{part_first}
-use Rattle.command.proofs.ByKind.{frame_none, kind_command, ordered_is}
+use Rattle.command.proofs.ByKind.{frame_none, kind_command}
 use Rattle.command.proofs.parse.Goals as goal
 
 pub returns-then-not-well_formed : goal.returns-then-not-well_formed
-unfolding ordered to_commands
+unfolding commands
 returns-then-not-well_formed c = sym (frame_none c.args.b.now (sym c.well_formed-2.ensures ∙ c.if-not-well_formed.true))
 
 pub change-requires : goal.change-requires
@@ -32,58 +32,49 @@ search-requires c =
     (sym c.well_formed-2.ensures ∙ c.if-not-well_formed.false, c.in-11.is)
 
 pub returns-in-1 : goal.returns-in-1
-unfolding to_commands kind_byte fields_of command_of all_values value_of plain_value width size
+unfolding to_command commands kind_byte fields_of command_of all_values value_of plain_value width size
 returns-in-1 c =
-    ordered_is c.alone.result _ c.alone.ensures
-    ∙ rw c.code_at.ensures (sym (kind_command K01 c.args.b.now (sym c.well_formed-2.ensures ∙ c.if-not-well_formed.false) c.in-1.is))
+    rw c.code_at.ensures (sym (kind_command K01 c.args.b.now (sym c.well_formed-2.ensures ∙ c.if-not-well_formed.false) c.in-1.is))
 
 pub returns-in-2 : goal.returns-in-2
-unfolding to_commands kind_byte fields_of command_of all_values value_of plain_value width size
+unfolding to_command commands kind_byte fields_of command_of all_values value_of plain_value width size
 returns-in-2 c =
-    ordered_is c.alone-in-2.result _ c.alone-in-2.ensures
-    ∙ rw (c.code_at-in-2.ensures, c.code_at-in-2-2.ensures) (sym (rw (part_first 13 1 c.args.b.now (omega arith), part_first 14 1 c.args.b.now (omega arith)) at (kind_command K02 c.args.b.now (sym c.well_formed-2.ensures ∙ c.if-not-well_formed.false) c.in-2.is)))
+    rw (c.code_at-in-2.ensures, c.code_at-in-2-2.ensures) (sym (rw (part_first 13 1 c.args.b.now (omega arith), part_first 14 1 c.args.b.now (omega arith)) at (kind_command K02 c.args.b.now (sym c.well_formed-2.ensures ∙ c.if-not-well_formed.false) c.in-2.is)))
 
 pub returns-in-3 : goal.returns-in-3
-unfolding to_commands kind_byte fields_of command_of all_values value_of plain_value width size
+unfolding to_command commands kind_byte fields_of command_of all_values value_of plain_value width size
 returns-in-3 c =
-    ordered_is c.alone-in-3.result _ c.alone-in-3.ensures
-    ∙ rw (c.code_at-in-3.ensures, back c.i64_at.result c.i64_at.type_inv, c.i64_at.ensures) (sym (kind_command K03 c.args.b.now (sym c.well_formed-2.ensures ∙ c.if-not-well_formed.false) c.in-3.is))
+    rw (c.code_at-in-3.ensures, back c.i64_at.result c.i64_at.type_inv, c.i64_at.ensures) (sym (kind_command K03 c.args.b.now (sym c.well_formed-2.ensures ∙ c.if-not-well_formed.false) c.in-3.is))
 
 pub returns-in-4 : goal.returns-in-4
-unfolding to_commands kind_byte fields_of command_of all_values value_of plain_value width size
+unfolding to_command commands kind_byte fields_of command_of all_values value_of plain_value width size
 returns-in-4 c =
-    ordered_is c.alone-in-4.result _ c.alone-in-4.ensures
-    ∙ rw (c.code_at-in-4.ensures, back c.i64_at-in-4.result c.i64_at-in-4.type_inv, c.i64_at-in-4.ensures) (sym (kind_command K04 c.args.b.now (sym c.well_formed-2.ensures ∙ c.if-not-well_formed.false) c.in-4.is))
+    rw (c.code_at-in-4.ensures, back c.i64_at-in-4.result c.i64_at-in-4.type_inv, c.i64_at-in-4.ensures) (sym (kind_command K04 c.args.b.now (sym c.well_formed-2.ensures ∙ c.if-not-well_formed.false) c.in-4.is))
 
 pub returns-in-5 : goal.returns-in-5
-unfolding to_commands kind_byte fields_of command_of all_values value_of plain_value width size
+unfolding to_command commands kind_byte fields_of command_of all_values value_of plain_value width size
 returns-in-5 c =
-    ordered_is c.alone-in-5.result _ c.alone-in-5.ensures
-    ∙ rw (c.code_at-in-5.ensures, back c.i64_at-in-5.result c.i64_at-in-5.type_inv, c.i64_at-in-5.ensures, back c.i64_at-in-5-2.result c.i64_at-in-5-2.type_inv, c.i64_at-in-5-2.ensures) (sym (kind_command K05 c.args.b.now (sym c.well_formed-2.ensures ∙ c.if-not-well_formed.false) c.in-5.is))
+    rw (c.code_at-in-5.ensures, back c.i64_at-in-5.result c.i64_at-in-5.type_inv, c.i64_at-in-5.ensures, back c.i64_at-in-5-2.result c.i64_at-in-5-2.type_inv, c.i64_at-in-5-2.ensures) (sym (kind_command K05 c.args.b.now (sym c.well_formed-2.ensures ∙ c.if-not-well_formed.false) c.in-5.is))
 
 pub returns-in-6 : goal.returns-in-6
-unfolding to_commands kind_byte fields_of command_of all_values value_of plain_value width size
+unfolding to_command commands kind_byte fields_of command_of all_values value_of plain_value width size
 returns-in-6 c =
-    ordered_is c.alone-in-6.result _ c.alone-in-6.ensures
-    ∙ rw (c.code_at-in-6.ensures, c.code_at-in-6-2.ensures, back c.i64_at-in-6.result c.i64_at-in-6.type_inv, c.i64_at-in-6.ensures) (sym (rw (part_first 1 1 c.args.b.now (omega arith)) at (kind_command K06 c.args.b.now (sym c.well_formed-2.ensures ∙ c.if-not-well_formed.false) c.in-6.is)))
+    rw (c.code_at-in-6.ensures, c.code_at-in-6-2.ensures, back c.i64_at-in-6.result c.i64_at-in-6.type_inv, c.i64_at-in-6.ensures) (sym (rw (part_first 1 1 c.args.b.now (omega arith)) at (kind_command K06 c.args.b.now (sym c.well_formed-2.ensures ∙ c.if-not-well_formed.false) c.in-6.is)))
 
 pub returns-in-10 : goal.returns-in-10
-unfolding to_commands kind_byte fields_of command_of all_values value_of plain_value width size
+unfolding to_command commands kind_byte fields_of command_of all_values value_of plain_value width size
 returns-in-10 c =
-    ordered_is c.alone-in-10.result _ c.alone-in-10.ensures
-    ∙ rw c.u32_at.ensures (sym (kind_command K0a c.args.b.now (sym c.well_formed-2.ensures ∙ c.if-not-well_formed.false) c.in-10.is))
+    rw c.u32_at.ensures (sym (kind_command K0a c.args.b.now (sym c.well_formed-2.ensures ∙ c.if-not-well_formed.false) c.in-10.is))
 
 pub returns-in-12 : goal.returns-in-12
-unfolding to_commands kind_byte fields_of command_of all_values value_of plain_value width size
+unfolding to_command commands kind_byte fields_of command_of all_values value_of plain_value width size
 returns-in-12 c =
-    ordered_is c.alone-in-12.result _ c.alone-in-12.ensures
-    ∙ rw c.code_at-in-12.ensures (sym (rw (part_first 7 1 c.args.b.now (omega arith)) at (kind_command K0c c.args.b.now (sym c.well_formed-2.ensures ∙ c.if-not-well_formed.false) c.in-12.is)))
+    rw c.code_at-in-12.ensures (sym (rw (part_first 7 1 c.args.b.now (omega arith)) at (kind_command K0c c.args.b.now (sym c.well_formed-2.ensures ∙ c.if-not-well_formed.false) c.in-12.is)))
 
 pub returns-in-19 : goal.returns-in-19
-unfolding to_commands kind_byte fields_of command_of all_values value_of plain_value width size
+unfolding to_command commands kind_byte fields_of command_of all_values value_of plain_value width size
 returns-in-19 c =
-    ordered_is c.alone-in-19.result _ c.alone-in-19.ensures
-    ∙ rw c.code_at-in-19.ensures (sym (kind_command K13 c.args.b.now (sym c.well_formed-2.ensures ∙ c.if-not-well_formed.false) c.in-19.is))
+    rw c.code_at-in-19.ensures (sym (kind_command K13 c.args.b.now (sym c.well_formed-2.ensures ∙ c.if-not-well_formed.false) c.in-19.is))
 
 pub returns-in_default : goal.returns-in_default
 unfolding kind_byte kinds kinds_at Rest

@@ -1,5 +1,4 @@
 use native.Mathlib.Omega.{arith}
-use Rattle.command.specs.View.{ordered}
 use Rattle.command.proofs.Searches.{search_at, search_held}
 use Rattle.command.proofs.search.Goals as goal
 
@@ -11,17 +10,10 @@ pub header_at-requires : goal.header_at-requires
 header_at-requires c =
     omega (arith, (search_at c.args.b.now c.requires.0 c.requires.1).whole)
 
-pub id_at-requires : goal.id_at-requires
-id_at-requires c =
-    omega (arith, (search_at c.args.b.now c.requires.0 c.requires.1).whole)
-
 pub conditions_of-requires : goal.conditions_of-requires
 conditions_of-requires c =
     let r = search_at c.args.b.now c.requires.0 c.requires.1 in
     (omega (arith, r.whole), omega (arith, r.short))
 
 pub returns : goal.returns
-unfolding ordered
-returns c =
-    search_held c.args.b.now c.requires.0 c.requires.1 _ _ _ _ _ c.header_at.ensures c.id_at.ensures _ c.from-n.ensures
-    c.conditions_of.ensures
+returns c = search_held c.args.b.now c.requires.0 c.requires.1 _ c.header_at.ensures _ _ c.from-n.ensures c.conditions_of.ensures

@@ -11,5 +11,5 @@ slice_bounds-read-end c =
 
 pub returns : goal.returns
 returns c =
-    let o = c.parse-order.ensures ∙ ap commands_of (read_front c.args.line.now _ _ _ c.nomiluvar_read_frame-n.ensures) in
+    let o = c.parse.ensures ∙ ap commands_of (read_front c.args.line.now _ _ _ c.nomiluvar_read_frame-n.ensures) in
     filled_some _ _ _ _ _ (sym (rewritten c.args.line.now _ _ o)) c.write_frame.ensures
