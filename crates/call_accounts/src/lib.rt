@@ -3,6 +3,8 @@
 
 ghost use Rattle.std.specs.Prelude.{◌≡◌, [], ◌∷◌, ◌++◌, ◌<◌, OnOk};
 ghost use Rattle.rules.specs.Command.{Bank, Branch};
+ghost use Rattle.rules.specs.Invariant.{Invariant};
+ghost use Rattle.rules.specs.Machine.{with_accounts};
 ghost use Rattle.rules.specs.Machine as Machine;
 ghost use Rattle.refusal.specs.Answer.{answer_of};
 ghost use Rattle.account.specs.View.{to_account};
@@ -14,9 +16,9 @@ use refusal::{Refusal, check};
 use rules::{is_code, is_method};
 use table::Table;
 
-// An account after the last.
+// An account after the last: one with which the table is still one of the rules'.
 fn join(t: &mut Table, x: Account)
-    requires { (Good t.old) × (t.old.count < 64) }
+    requires { (t.old.count < 64) × (Good t.old → Invariant (with_accounts (accounts_of t.old ++ (to_account x ∷ [])) (machine_of t.old))) }
     ensures { Holds t.old t.new (accounts_of t.old ++ (to_account x ∷ [])) }
 {
     let n = t.count;
@@ -28,7 +30,6 @@ fn join(t: &mut Table, x: Account)
 // The checks of kind 01.
 #[tactic(auto, unfolding(rules::specs::Machine::first_failure, rules::specs::Machine::checks, rules::specs::Machine::answer, rules::specs::Command::well_formed, table::specs::Promise::call, table::specs::View::machine_of))]
 fn bank_checks(t: &Table, code: u32) -> Result<(), Refusal>
-    requires { Good t.now }
     ensures says { answer_of result ≡ Machine.answer (machine_of t.now) (call (Bank code)) }
     ensures room { OnOk result (t.now.count < 64) }
 {
@@ -39,7 +40,6 @@ fn bank_checks(t: &Table, code: u32) -> Result<(), Refusal>
 
 #[tactic(auto, using(table::proofs::Called::declined, crate::proofs::Joins::joined), unfolding(rules::specs::Machine::effect, table::specs::View::machine_of, account::specs::View::to_owner))]
 pub fn bank_open(t: &mut Table, code: u32) -> Result<(), Refusal>
-    requires { Good t.old }
     ensures { Calls (Bank code) t.old result t.new }
 {
     bank_checks(t, code)?;
@@ -56,7 +56,6 @@ fn branch_checks(
     ltk_method: u8,
     lpo_method: u8,
 ) -> Result<(), Refusal>
-    requires { Good t.now }
     ensures says { answer_of result ≡ Machine.answer (machine_of t.now) (call (Branch code owner ltk_method lpo_method)) }
     ensures room { OnOk result (t.now.count < 64) }
 {
@@ -76,7 +75,6 @@ pub fn branch_open(
     ltk_method: u8,
     lpo_method: u8,
 ) -> Result<(), Refusal>
-    requires { Good t.old }
     ensures { Calls (Branch code owner ltk_method lpo_method) t.old result t.new }
 {
     branch_checks(t, code, owner, ltk_method, lpo_method)?;

@@ -5,7 +5,7 @@ ghost use Rattle.std.specs.Prelude.{◌≡◌, ◌&&◌};
 ghost use Rattle.std.specs.Int.Signed.{non_neg};
 ghost use Rattle.amount.specs.Amount.{is_limit};
 ghost use Rattle.rules.specs.Command.{BankLimits};
-ghost use Rattle.table.specs.Promise.{Good, Calls};
+ghost use Rattle.table.specs.Promise.{Calls};
 
 use account::Limit;
 use amount::is_limit;
@@ -22,7 +22,6 @@ fn in_range(ltk: i64, lpo: i64) -> bool
 
 // A change of a bank's limits.
 pub fn bank_limits(t: &mut Table, code: u32, ltk: i64, lpo: i64) -> Result<(), Refusal>
-    requires { Good t.old }
     ensures { Calls (BankLimits code ltk lpo) t.old result t.new }
 {
     let place = bank_checks(t, code, in_range(ltk, lpo), Refusal::OutOfRange)?;

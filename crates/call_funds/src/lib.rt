@@ -2,7 +2,7 @@
 #![tactic(auto, using(octets::proofs::Numbers::fits_money, rules::proofs::Checks::refused_keeps), unfolding(bank_checks::specs::Parts::bank_call_checks, rules::specs::Machine::first_failure, rules::specs::Machine::checks, rules::specs::Machine::answer, rules::specs::Command::well_formed, table::specs::Promise::call, table::specs::View::machine_of))]
 
 ghost use Rattle.rules.specs.Command.{Funding, Withdrawal};
-ghost use Rattle.table.specs.Promise.{Good, Calls};
+ghost use Rattle.table.specs.Promise.{Calls};
 
 use account_booking::{amount_of, start_down, start_up};
 use account_state::{covers, total_fits};
@@ -13,7 +13,6 @@ use table::{Table, total};
 
 // A funding.
 pub fn fund(t: &mut Table, code: u32, amount: i64) -> Result<(), Refusal>
-    requires { Good t.old }
     ensures { Calls (Funding code amount) t.old result t.new }
 {
     let place = bank_checks(t, code, is_amount(amount), Refusal::OutOfRange)?;
@@ -25,7 +24,6 @@ pub fn fund(t: &mut Table, code: u32, amount: i64) -> Result<(), Refusal>
 
 // A withdrawal. Beside `fund`: all but the first two lines differs, and one function for both would take two closures with contracts.
 pub fn withdraw(t: &mut Table, code: u32, amount: i64) -> Result<(), Refusal>
-    requires { Good t.old }
     ensures { Calls (Withdrawal code amount) t.old result t.new }
 {
     let place = bank_checks(t, code, is_amount(amount), Refusal::OutOfRange)?;

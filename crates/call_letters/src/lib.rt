@@ -4,7 +4,7 @@
 ghost use Rattle.std.specs.Prelude.{◌≡◌};
 ghost use Rattle.rules.specs.Command.{Letters, Mark, some?};
 ghost use Rattle.table.specs.View.{accounts_of};
-ghost use Rattle.table.specs.Promise.{Good, Calls};
+ghost use Rattle.table.specs.Promise.{Calls};
 
 use bank_checks::bank_checks;
 use refusal::{Refusal, check};
@@ -13,7 +13,6 @@ use table::Table;
 
 // Letters.
 pub fn set_letters(t: &mut Table, code: u32, letters: u8) -> Result<(), Refusal>
-    requires { Good t.old }
     ensures { Calls (Letters code letters) t.old result t.new }
 {
     check(is_code(code) && is_letters(letters), Refusal::IllFormed)?;
@@ -24,7 +23,6 @@ pub fn set_letters(t: &mut Table, code: u32, letters: u8) -> Result<(), Refusal>
 
 // Whether a bank is marked.
 fn has_central(t: &Table) -> bool
-    requires { Good t.now }
     ensures { result ≡ some? (λ x. x.marked) (accounts_of t.now) }
 {
     t.accounts[..t.count].iter().any(|x| x.marked)
@@ -32,7 +30,6 @@ fn has_central(t: &Table) -> bool
 
 // A mark.
 pub fn mark_bank(t: &mut Table, code: u32) -> Result<(), Refusal>
-    requires { Good t.old }
     ensures { Calls (Mark code) t.old result t.new }
 {
     let place = bank_checks(t, code, !has_central(t), Refusal::MarkTaken)?;

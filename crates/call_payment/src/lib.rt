@@ -6,7 +6,7 @@ ghost use Rattle.amount.specs.Amount.{is_amount};
 ghost use Rattle.rules.specs.Command.{Payment};
 ghost use Rattle.rules.specs.Machine.{answer};
 ghost use Rattle.refusal.specs.Answer.{answer_of};
-ghost use Rattle.table.specs.Promise.{Good, Calls, call};
+ghost use Rattle.table.specs.Promise.{Calls, call};
 ghost use Rattle.table.specs.View.{machine_of};
 ghost use Rattle.payment_parties.specs.Finding.{PartiesAt};
 
@@ -18,9 +18,7 @@ use refusal::Refusal;
 use table::Table;
 
 // All the checks in order, and where the parties stand: their accounts are looked at only where both are known.
-#[tactic(auto, using(crate::proofs::Parties::found_sized))]
 pub fn decide(t: &Table, p: Transfer) -> Result<Parties, Refusal>
-    requires { Good t.now }
     ensures says { answer_of result ≡ answer (machine_of t.now) (call (Payment p.way p.sender p.receiver p.amount)) }
     ensures parties { IfOk result (PartiesAt t.now p) }
     ensures amount { OnOk result (T (is_amount p.amount)) }
@@ -37,7 +35,6 @@ pub fn decide(t: &Table, p: Transfer) -> Result<Parties, Refusal>
 // Each account is read again before it is stored: two of the four may be one, as where both parties have one bank.
 #[tactic(auto, using(table::proofs::Called::declined))]
 pub fn pay(t: &mut Table, p: Transfer) -> Result<(), Refusal>
-    requires { Good t.old }
     ensures { Calls (Payment p.way p.sender p.receiver p.amount) t.old result t.new }
 {
     let parties = decide(t, p)?;

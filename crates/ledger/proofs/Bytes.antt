@@ -64,6 +64,6 @@ module _ (t u : Table) (ids days : List ℕ) (used : ℕ) (ids' days' : List ℕ
 
 pub book_bytes : BookBytes
 book_bytes = record {
-  settled = λ k t ids days used r ids' days' g p. written t r.table ids days used ids' days' r.used _ g p.sound p.behind p.moves;
-  played = λ cs t ids days used report r ids' days' report' g p. written t r.table ids days used ids' days' r.used _ g p.sound p.behind p.moves;
+  settled = λ k t ids days used r ids' days' g p. written t r.table ids days used ids' days' r.used _ g (p.sound g) p.behind p.moves;
+  played = λ cs t ids days used report r ids' days' report' g p. written t r.table ids days used ids' days' r.used _ g (p.sound g) p.behind p.moves;
 }

@@ -15,7 +15,7 @@ simulates = record {
       ap₂ (λ u n. view_of u t.book.ids t.book.days n) p.table_is p.used_is
       ∙ p.played.moves
       ∙ ap (λ n. next (ledger_view s) (lent n k.command)) p.length_is;
-  good = λ {s} {t} {k} g p. subst₂ (λ u n. Sound u t.book.ids t.book.days n) (sym p.table_is) (sym p.used_is) p.played.sound;
+  good = λ {s} {t} {k} g p. subst₂ (λ u n. Sound u t.book.ids t.book.days n) (sym p.table_is) (sym p.used_is) (p.played.sound g);
 }
 
 pub demand_of_calls : DemandOfCalls

@@ -46,20 +46,20 @@ module _ (t : Table) (ids days : List ℕ) (used : ℕ) where
 
 -- ---- a call that has no report
 
-module _ (k : Command) (t : Table) (ids days : List ℕ) (used : ℕ) (g : Sound t ids days used) where
+module _ (k : Command) (t : Table) (ids days : List ℕ) (used : ℕ) where
   pub settled_no : (a : ℕ) → a ≡ answer (view_of t ids days used) (lent 0 k) → ¬ (a ≡ 0) → Settled k t ids days used (record { answer = a; table = t; used = used }) ids days
   settled_no a e h = record {
     says = e;
     moves = sym (refused_keeps (view_of t ids days used) (lent 0 k) (λ z. h (e ∙ z)));
     refused = λ z. unchanged t ids days used;
     behind = untouched ids days used;
-    sound = g;
+    sound = λ g. g;
   }
 
   -- the record after an accepted call is sound where it is the machine's next
-  pub next_sound : (room : ℕ) (u : Table) (ids' days' : List ℕ) (used' : ℕ) → u.count ≤ 64 → take u.count u.codes ≡ codes (accounts_of u) → used' ≤ 1024 → Lengths ids' days'
+  pub next_sound : Sound t ids days used → (room : ℕ) (u : Table) (ids' days' : List ℕ) (used' : ℕ) → u.count ≤ 64 → take u.count u.codes ≡ codes (accounts_of u) → used' ≤ 1024 → Lengths ids' days'
       → view_of u ids' days' used' ≡ next (view_of t ids days used) (lent room k) → Sound u ids' days' used'
-  next_sound room u ids' days' used' w q f l v = record {
+  next_sound g room u ids' days' used' w q f l v = record {
     within = w;
     same = q;
     few = f;
@@ -76,34 +76,34 @@ module _ (k : Command) (t : Table) (ids days : List ℕ) (used : ℕ) (g : Sound
       → Settled k t ids days used (record { answer = 0; table = u; used = used' }) ids' days'
   settled_yes u ids' days' used' e w q f l b v =
       let moved : view_of u ids' days' used' ≡ next (view_of t ids days used) (lent 0 k) = v ∙ next_effect 0 e in
-      record { says = sym e; moves = moved; refused = λ h. absurd (h refl); behind = b; sound = next_sound 0 u ids' days' used' w q f l moved }
+      record { says = sym e; moves = moved; refused = λ h. absurd (h refl); behind = b; sound = λ g. next_sound g 0 u ids' days' used' w q f l moved }
 
 -- a call on the table alone
-pub settled_table : (k : Command) (t : Table) (ids days : List ℕ) (used : ℕ) (r : Reply) → T (plain k) → Sound t ids days used → Called k t r
+pub settled_table : (k : Command) (t : Table) (ids days : List ℕ) (used : ℕ) (r : Reply) → T (plain k) → Called k t r
     → Settled k t ids days used (record { answer = r.answer; table = r.table; used = used }) ids days
 unfolding view_of with_book machine_of
-settled_table k t ids days used r p g c =
+settled_table k t ids days used r p c =
     let l = lifted (entries_of ids days used) 0 k t r p c in
     record {
       says = l.0;
       moves = l.1;
       refused = λ h. record { table_same = c.refused h; ids_same = refl; days_same = refl; used_same = refl };
       behind = untouched ids days used;
-      sound = next_sound k t ids days used g 0 r.table ids days used c.good.within c.good.same g.few g.lengths l.1;
+      sound = λ g. let good = c.good (good_table t ids days used g) in next_sound k t ids days used g 0 r.table ids days used good.within good.same g.few g.lengths l.1;
     }
 
 -- 0a: the table's part, and where it is accepted ids have left the book
-pub settled_day_no : (d : ℕ) (t : Table) (ids days : List ℕ) (used : ℕ) (r : Reply) → Sound t ids days used → Called (Opening d) t r → ¬ (r.answer ≡ 0)
+pub settled_day_no : (d : ℕ) (t : Table) (ids days : List ℕ) (used : ℕ) (r : Reply) → Called (Opening d) t r → ¬ (r.answer ≡ 0)
     → Settled (Opening d) t ids days used (record { answer = r.answer; table = r.table; used = used }) ids days
-settled_day_no d t ids days used r g c h =
+settled_day_no d t ids days used r c h =
     let l = lifted_day (entries_of ids days used) 0 d t r c in
     subst (λ (u : Table). Settled (Opening d) t ids days used (record { answer = r.answer; table = u; used = used }) ids days) (sym (c.refused h))
-    (settled_no (Opening d) t ids days used g r.answer (l.0 ∙ ap (λ (m : Machine). answer m (lent 0 (Opening d))) (sym (view_is t ids days used))) h)
+    (settled_no (Opening d) t ids days used r.answer (l.0 ∙ ap (λ (m : Machine). answer m (lent 0 (Opening d))) (sym (view_is t ids days used))) h)
 
-pub settled_day_yes : (d : ℕ) (t : Table) (ids days : List ℕ) (used : ℕ) (r : Reply) (ids' days' : List ℕ) (kept : ℕ) → Sound t ids days used → Called (Opening d) t r → r.answer ≡ 0
+pub settled_day_yes : (d : ℕ) (t : Table) (ids days : List ℕ) (used : ℕ) (r : Reply) (ids' days' : List ℕ) (kept : ℕ) → used ≤ 1024 → Called (Opening d) t r → r.answer ≡ 0
     → Dropped ids days used t.day ids' days' kept → Settled (Opening d) t ids days used (record { answer = r.answer; table = r.table; used = kept }) ids' days'
 unfolding view_of with_book machine_of if_accepted
-settled_day_yes d t ids days used r ids' days' kept g c z b =
+settled_day_yes d t ids days used r ids' days' kept few c z b =
     let es = entries_of ids days used in
     let l = lifted_day es 0 d t r c in
     let moved : view_of r.table ids' days' kept ≡ next (view_of t ids days used) (lent 0 (Opening d)) =
@@ -113,7 +113,7 @@ settled_day_yes d t ids days used r ids' days' kept g c z b =
       moves = moved;
       refused = λ h. absurd (h z);
       behind = b.behind;
-      sound = next_sound (Opening d) t ids days used g 0 r.table ids' days' kept c.good.within c.good.same (omega (arith, b.fewer, g.few)) b.lengths moved;
+      sound = λ g. let good = c.good (good_table t ids days used g) in next_sound (Opening d) t ids days used g 0 r.table ids' days' kept good.within good.same (omega (arith, b.fewer, few)) b.lengths moved;
     }
 
 -- ---- a message's id joins the book
@@ -155,17 +155,16 @@ played_silent k t ids days used report r ids' days' s p = record {
 }
 
 -- bytes that hold no command
-pub played_none : (t : Table) (ids days : List ℕ) (used : ℕ) (report : List ℕ) → Sound t ids days used
-    → Played [] t ids days used report (record { answer = 1; table = t; used = used; report_len = 0 }) ids days report
+pub played_none : (t : Table) (ids days : List ℕ) (used : ℕ) (report : List ℕ) → Played [] t ids days used report (record { answer = 1; table = t; used = used; report_len = 0 }) ids days report
 unfolding outcome_of next_of write
-played_none t ids days used report g = record {
+played_none t ids days used report = record {
   says = ap (λ bs. record { answer = 1; report = bs }) (take_none report);
   moves = refl;
   bytes = sym (ap (write report 0) (take_none report));
   fits = omega arith;
   refused = λ h. unchanged t ids days used;
   behind = untouched ids days used;
-  sound = g;
+  sound = λ g. g;
 }
 
 -- ---- an answer has two digits

@@ -35,7 +35,7 @@ by_settled k l report r ids' days' t s =
 
 pub calls_are_steps : CallsAreSteps
 calls_are_steps = record {
-  called = λ k l report r p g c. by_settled k l report _ _ _ (plain_silent k p) (settled_table k l.table l.book.ids l.book.days l.book.used r p g c);
+  called = λ k l report r p c. by_settled k l report _ _ _ (plain_silent k p) (settled_table k l.table l.book.ids l.book.days l.book.used r p c);
   settled = by_settled;
   asked = λ k l report answer used' len ids' days' report' p. by_played k l report _ ids' days' report' p;
   played = by_played;

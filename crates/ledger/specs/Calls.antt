@@ -4,7 +4,7 @@ use Rattle.std.specs.Prelude.{Bool, true, false, List, [], ◌∷◌, T, length,
 use Rattle.rules.specs.Command.{Command, Bank, Branch, Funding, Withdrawal, BankLimits, Payment, Change, Deletion, Query, Opening, Search, Letters, Mark}
 use Rattle.table.specs.Promise.{Reply, Called}
 use Rattle.ledger.specs.declared.Ledger.{Ledger}
-use Rattle.ledger.specs.Promise.{Noted, Stepped, SoundLedger, Settled, Played}
+use Rattle.ledger.specs.Promise.{Noted, Stepped, Settled, Played}
 use Rattle.ledger.specs.Program.{Step}
 use Rattle.ledger.specs.View.{lent}
 
@@ -51,13 +51,13 @@ silent k = no_report (reach k)
 -- ---- the contracts
 
 pub record CallsAreSteps : Type 0 where
-  -- 01 to 06, 0c, 13: `bank_open`, `branch_open`, `fund`, `withdraw`, `bank_limits`, `pay`, `set_letters`, `mark_bank`. The book stays with the caller
-  pub called : (k : Command) (l : Ledger) (report : List ℕ) (r : Reply) → T (plain k) → SoundLedger l → Called k l.table r
+  -- 01 to 06, 0c, 13: `bank_open`, `branch_open`, `fund`, `withdraw`, `bank_limits`, `pay`, `set_letters`, `mark_bank`, lent the table alone
+  pub called : (k : Command) (l : Ledger) (report : List ℕ) (r : Reply) → T (plain k) → Called k l.table r
       → Step l (lent (length report) k) (record { answer = r.answer; report = [] }) (record { table = r.table; book = l.book })
-  -- 07, 08, 0a: `change`, `deletion`, `open`. The book is lent
+  -- 07, 08, 0a: `change`, `deletion`, `open`, lent the record
   pub settled : (k : Command) (l : Ledger) (report : List ℕ) (r : Noted) (ids' days' : List ℕ) → T (silent k) → Settled k l.table l.book.ids l.book.days l.book.used r ids' days'
       → Step l (lent (length report) k) (record { answer = r.answer; report = [] }) (record { table = r.table; book = record { ids = ids'; days = days'; used = r.used } })
-  -- 09, 0b: `query`, `search`. The book and the report buffer are lent; the table stays with the caller
+  -- 09, 0b: `query`, `search`, lent the record and the report buffer; the table stays as it is
   pub asked : (k : Command) (l : Ledger) (report : List ℕ) (answer used' len : ℕ) (ids' days' report' : List ℕ)
       → Played (k ∷ []) l.table l.book.ids l.book.days l.book.used report (record { answer = answer; table = l.table; used = used'; report_len = len }) ids' days' report'
       → Step l (lent (length report) k) (record { answer = answer; report = take len report' }) (record { table = l.table; book = record { ids = ids'; days = days'; used = used' } })

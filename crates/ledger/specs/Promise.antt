@@ -13,7 +13,7 @@ use Rattle.book.specs.Entries.{Lengths, Behind}
 use Rattle.ledger.specs.declared.Ledger.{Ledger}
 use Rattle.ledger.specs.View.{view_of, lent, outcome_of, next_of}
 
--- what `fresh` gives and every call gives back
+-- what holds of every record of the program
 pub record Sound (t : Table) (ids days : List ℕ) (used : ℕ) : Type 0 where
   pub within : t.count ≤ 64
   -- the codes beside the accounts are the accounts' own
@@ -45,17 +45,18 @@ pub record Stepped : Type 0 where
   pub used : ℕ
   pub report_len : ℕ
 
--- of a call that has no report: the answer is the history machine's, the record afterwards is its next, a refusal leaves the very same record. The used
--- places of the lent book hold what the next record says, byte for byte, and those behind them stay
+-- of a call that has no report: the answer is the history machine's, the record afterwards is its next, a refusal leaves the very same record, and a sound
+-- record stays sound. The used places of the book hold what the next record says, byte for byte, and those behind them stay
 pub record Settled (k : Command) (t : Table) (ids days : List ℕ) (used : ℕ) (r : Noted) (ids' days' : List ℕ) : Type 0 where
   pub says : r.answer ≡ answer (view_of t ids days used) (lent 0 k)
   pub moves : view_of r.table ids' days' r.used ≡ next (view_of t ids days used) (lent 0 k)
   pub refused : ¬ (r.answer ≡ 0) → Same t ids days used r.table ids' days' r.used
   pub behind : Behind ids days ids' days' r.used
-  pub sound : Sound r.table ids' days' r.used
+  pub sound : Sound t ids days used → Sound r.table ids' days' r.used
 
 -- of every call, and of bytes that hold one command or none: answer and report are the history machine's, the record afterwards is its next, a refusal
--- leaves the very same record. The lent book is as with `Settled`; the report stands in the lent buffer from byte 0 on, and the bytes past it stay
+-- leaves the very same record, and a sound record stays sound. The book is as with `Settled`; the report stands in the lent buffer from byte 0 on, and the bytes
+-- past it stay
 pub record Played (cs : List Command) (t : Table) (ids days : List ℕ) (used : ℕ) (report : List ℕ) (r : Stepped) (ids' days' report' : List ℕ) : Type 0 where
   pub says : record { answer = r.answer; report = take r.report_len report' } ≡ outcome_of (view_of t ids days used) (length report) cs
   pub moves : view_of r.table ids' days' r.used ≡ next_of (view_of t ids days used) (length report) cs
@@ -63,7 +64,7 @@ pub record Played (cs : List Command) (t : Table) (ids days : List ℕ) (used : 
   pub fits : r.report_len ≤ length report
   pub refused : ¬ (r.answer ≡ 0) → Same t ids days used r.table ids' days' r.used
   pub behind : Behind ids days ids' days' r.used
-  pub sound : Sound r.table ids' days' r.used
+  pub sound : Sound t ids days used → Sound r.table ids' days' r.used
 
 -- ---- the same of a call that is lent the whole record, gives the result r and leaves the record u
 

@@ -5,7 +5,12 @@ use Rattle.rules.specs.Machine.{Machine, next, Outcome, outcome}
 use Rattle.table.specs.declared.Table.{Table}
 use Rattle.table.specs.View.{accounts_of}
 use Rattle.book.specs.Entries.{entries_of}
-use Rattle.ledger.specs.declared.Ledger.{Ledger}
+use Rattle.book.specs.declared.Book.{Book}
+
+-- the record as contracts see it
+pub record Ledger : Type 0 where
+  pub table : Table
+  pub book : Book
 
 -- the accounts in table order, the open day, the ids with their days
 unfoldable pub view_of : Table → List ℕ → List ℕ → ℕ → Machine

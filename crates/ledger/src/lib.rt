@@ -9,13 +9,27 @@ ghost use Rattle.ledger.specs.View.{ledger_view};
 ghost use Rattle.ledger.specs.Promise.{SoundLedger};
 
 use book::Book;
+use std::marker::Model;
 use table::Table;
 
-// The record: table and book.
+// The record: table and book. What holds of it stands in the type, so a call asks nothing of it.
 #[derive(Drop)]
 pub struct Ledger {
     pub table: Table,
     pub book: Book,
+}
+
+impl Model for Ledger {
+    ghost use Rattle.ledger.specs.View as View;
+
+    ghost Value = { View.Ledger };
+
+    ghost use Rattle.ledger.specs.Inside.{ledger_of};
+    ghost use Rattle.ledger.specs.Promise.{SoundLedger};
+
+    ghost view = { ledger_of };
+
+    ghost invariant = { λ a. SoundLedger (ledger_of a) };
 }
 
 pub fn fresh() -> Ledger
@@ -23,6 +37,6 @@ pub fn fresh() -> Ledger
 {
     Ledger {
         table: table::fresh(),
-        book: book::empty(),
+        book: Book::empty(),
     }
 }

@@ -7,13 +7,11 @@ ghost use Rattle.rules.specs.Command.{some?};
 ghost use Rattle.rules.specs.Message as Message;
 ghost use Rattle.account.specs.View.{at_moment};
 ghost use Rattle.table.specs.View.{accounts_of};
-ghost use Rattle.table.specs.Promise.{Good};
 
 use account::Moment;
 use table::Table;
 
 fn has_branch(t: &Table, sender: u32) -> bool
-    requires { Good t.now }
     ensures { result ≡ some? (λ x. Message.owned_by sender x.owner) (accounts_of t.now) }
 {
     t.accounts[..t.count].iter().any(|x| x.is_owned_by(sender))
@@ -22,7 +20,6 @@ fn has_branch(t: &Table, sender: u32) -> bool
 // A head bank is a bank that has a branch.
 #[tactic(auto, using(crate::proofs::Lookup::no_bank), unfolding(rules::specs::Message::is_head))]
 pub fn is_head(t: &Table, sender: u32) -> bool
-    requires { Good t.now }
     ensures { result ≡ Message.is_head sender (accounts_of t.now) }
 {
     t.find(sender)
@@ -31,7 +28,6 @@ pub fn is_head(t: &Table, sender: u32) -> bool
 }
 
 pub fn is_branch_of(t: &Table, sender: u32, code: u32) -> bool
-    requires { Good t.now }
     ensures { result ≡ Message.is_branch_of sender code (accounts_of t.now) }
 {
     t.find(code)
@@ -40,7 +36,6 @@ pub fn is_branch_of(t: &Table, sender: u32, code: u32) -> bool
 
 // Whether a message of the moment may name the account: what is no branch of the sender's is not looked at.
 pub fn is_later(t: &Table, sender: u32, code: u32, moment: Moment) -> bool
-    requires { Good t.now }
     ensures { result ≡ (not (Message.is_branch_of sender code (accounts_of t.now)) || Message.later (at code (accounts_of t.now)).moment (at_moment moment)) }
 {
     match t.find(code) {

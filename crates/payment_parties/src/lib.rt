@@ -4,7 +4,6 @@
 ghost use Rattle.std.specs.Prelude.{◌≡◌, ◌&&◌, false, MatchOption};
 ghost use Rattle.rules.specs.Account.{known};
 ghost use Rattle.rules.specs.Payment as Payment;
-ghost use Rattle.table.specs.Promise.{Good};
 ghost use Rattle.table.specs.View.{accounts_of};
 ghost use Rattle.payment_parties.specs.Finding.{PartyAt, PartiesAt};
 
@@ -13,6 +12,7 @@ use table::Table;
 // A payment: 0 credit or 1 debit, the codes of both, the amount.
 #[derive(Clone, Copy)]
 pub struct Transfer {
+    // The byte of the frame: a call refuses one above 1, which an enum would ask of its callers.
     pub way: u8,
     pub sender: u32,
     pub receiver: u32,
@@ -27,6 +27,7 @@ impl Transfer {
         self.way == 0
     }
 
+    // Who pays and who is paid, two functions, since the rules have the two.
     #[tactic(auto, unfolding(rules::specs::Payment::payer))]
     pub fn payer(self) -> u32
         ensures { result ≡ Payment.payer (Payment.is_credit self.way) self.sender self.receiver }
@@ -42,10 +43,10 @@ impl Transfer {
     pub fn payee(self) -> u32
         ensures { result ≡ Payment.payee (Payment.is_credit self.way) self.sender self.receiver }
     {
-        if self.is_credit() {
-            self.receiver
-        } else {
+        if !self.is_credit() {
             self.sender
+        } else {
+            self.receiver
         }
     }
 }
@@ -66,7 +67,6 @@ pub struct Parties {
 // Expanded where it is called: in a payment it is most of the work, and two calls would cost 5 % more instructions.
 #[inline(always)]
 fn find_party(t: &Table, code: u32) -> Option<Party>
-    requires { Good t.now }
     ensures { MatchOption result (known code (accounts_of t.now) ≡ false) (PartyAt t.now code) }
 {
     let account = t.find(code)?;
@@ -80,7 +80,6 @@ fn find_party(t: &Table, code: u32) -> Option<Party>
 // None where one of the two is not in the table.
 #[tactic(auto, using(crate::proofs::Banks::both_known))]
 pub fn find_parties(t: &Table, p: Transfer) -> Option<Parties>
-    requires { Good t.now }
     ensures { MatchOption result ((known p.sender (accounts_of t.now) && known p.receiver (accounts_of t.now)) ≡ false) (PartiesAt t.now p) }
 {
     let payer = find_party(t, p.payer())?;

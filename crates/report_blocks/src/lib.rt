@@ -3,9 +3,7 @@
 
 ghost use Rattle.std.specs.Prelude.{[], ◌∷◌, ◌++◌, ◌+◌, ◌*◌, ◌≤◌, length};
 ghost use Rattle.rules.specs.Report as Report;
-ghost use Rattle.command.specs.View.{ids_from};
 ghost use Rattle.table.specs.View.{accounts_of};
-ghost use Rattle.table.specs.Promise.{Good};
 ghost use Rattle.octet_writer.specs.Written.{Written, HasRoom, MovedAtMost, Wrote};
 
 use message_fields::named;
@@ -16,7 +14,7 @@ use table::Table;
 // The block of the account of a code, or 23 of one that is not known, or 24 where the sender may not ask for it.
 #[tactic(auto, using(crate::proofs::Blocks::reportable_at), unfolding(rules::specs::Report::block, rules::specs::Message::may_ask))]
 fn put_block(w: &mut Writer, t: &Table, sender: u32, code: u32)
-    requires { HasRoom 57 w.old × (Good t.now) }
+    requires { HasRoom 57 w.old }
     ensures moved { MovedAtMost 57 w.old w.new }
     ensures wrote { Wrote (Report.block sender (accounts_of t.now) code) w.old w.new }
 {
@@ -33,15 +31,15 @@ fn put_block(w: &mut Writer, t: &Table, sender: u32, code: u32)
     }
 }
 
-// The count and the blocks of n account ids, from byte 0 on; the report's length.
-pub fn put_report(t: &Table, sender: u32, accounts: [u8; 160], n: usize, out: &mut [u8]) -> usize
-    requires { (Good t.now) × (n ≤ 16) × (1 + n * 57 ≤ length out.old) }
-    ensures { Written out.old 0 ((n ∷ []) ++ Report.blocks sender (accounts_of t.now) (ids_from 0 n accounts)) out.new result }
+// The count and the blocks of account ids, from byte 0 on; the report's length.
+pub fn put_report(t: &Table, sender: u32, ids: &[[u8; 10]], out: &mut [u8]) -> usize
+    requires { (length ids.now ≤ 16) × (1 + length ids.now * 57 ≤ length out.old) }
+    ensures { Written out.old 0 ((length ids.now ∷ []) ++ Report.blocks sender (accounts_of t.now) ids.now) out.new result }
 {
     let mut w = Writer::new(out);
-    w.put(n as u8);
-    for k in 0..n {
-        put_block(&mut w, t, sender, named(&accounts, k * 10));
+    w.put(ids.len() as u8);
+    for id in ids {
+        put_block(&mut w, t, sender, named(id, 0));
     }
     w.len()
 }

@@ -8,7 +8,6 @@ ghost use Rattle.rules.specs.Invariant.{Sized};
 ghost use Rattle.account.specs.View.{to_account, to_turnovers};
 ghost use Rattle.search_set.specs.Sets.{chosen};
 ghost use Rattle.table.specs.View.{accounts_of};
-ghost use Rattle.table.specs.Promise.{Good};
 ghost use Rattle.octet_writer.specs.Written.{Written, HasRoom, Moved, MovedAtMost, Wrote};
 
 use account::Account;
@@ -19,7 +18,7 @@ use search_selection::account_id;
 use search_set::{first_place, size, without_first};
 use table::Table;
 
-// The four turnovers.
+// The four turnovers, one by one: a loop of four would want an invariant.
 fn put_turnovers(w: &mut Writer, t: [u64; 4])
     requires { HasRoom 32 w.old }
     ensures moved { Moved 32 w.old w.new }
@@ -57,9 +56,10 @@ fn put_found(w: &mut Writer, x: Account, may: bool)
     }
 }
 
-// How many accounts are in the set, and each of them in table order, from byte 0 on; the report's length.
+// How many accounts are in the set, and each of them in table order, from byte 0 on; the report's length. A set as a number, its
+// members counted by `count_ones` and found by `trailing_zeros`, is a form that the project's scope names, and so is the loop over it.
 pub fn put_search(t: &Table, sender: u32, set: u64, out: &mut [u8]) -> usize
-    requires { (Good t.now) × (set < 2 ^ t.now.count) × (8192 ≤ length out.old) }
+    requires { (set < 2 ^ t.now.count) × (8192 ≤ length out.old) }
     ensures { Written out.old 0 ((ones set ∷ []) ++ Search.found_blocks sender (accounts_of t.now) (chosen set (accounts_of t.now))) out.new result }
 {
     let mut w = Writer::new(out);

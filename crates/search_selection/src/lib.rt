@@ -8,7 +8,6 @@ ghost use Rattle.rules.specs.Search as Search;
 ghost use Rattle.frame_fields.specs.Conditions.{ConditionsFirst, conditions_in};
 ghost use Rattle.search_set.specs.Sets.{set_of};
 ghost use Rattle.table.specs.View.{accounts_of};
-ghost use Rattle.table.specs.Promise.{Good};
 
 use frame_code_writer::put_code;
 use search_set::with_place;
@@ -41,9 +40,9 @@ pub fn meets_one(b: &[u8], n: usize, id: &[u8]) -> bool
     false
 }
 
-// The set of the places of the selected accounts.
+// The set of the places of the selected accounts: the loop goes over the places.
 pub fn select(t: &Table, b: &[u8], n: usize) -> u64
-    requires { (Good t.now) × (ConditionsFirst n b.now) }
+    requires { ConditionsFirst n b.now }
     ensures says { result ≡ set_of (map (Search.selects (conditions_in n b.now)) (accounts_of t.now)) }
     ensures below { result < 2 ^ t.now.count }
 {

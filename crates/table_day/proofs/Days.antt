@@ -7,7 +7,7 @@ use native.Mathlib.Omega.{arith}
 use native.Mathlib.Numerals.{add-one}
 use borrow.Author.Tests.{lt-ltb}
 use lib.Dec.{T, ltb}
-use lib.ListN.{length, take, drop, get_or, set, length-map}
+use lib.ListN.{length, take, drop, get_or, set, length-map, length-append, length-drop}
 use lib.Seq.{take-append_seam}
 use Rattle.rules.specs.Account as Rule
 use Rattle.rules.specs.Account.{codes, blank}
@@ -24,8 +24,8 @@ use Rattle.table.specs.declared.Table.{Table}
 use Rattle.table.specs.View.{accounts_of, machine_of}
 use Rattle.table.specs.Promise.{Good, call, Called}
 use Rattle.table.proofs.Called.{every_sized, accepted}
-use Rattle.table.proofs.Places.{map_get_or, map_set}
-use Rattle.table.specs.Promise.{Holds}
+use Rattle.table.proofs.Places.{accounts_length, map_get_or, map_set}
+use Rattle.table_day.specs.Ready.{Ready}
 
 -- the first i of a list mapped, the others as they were
 abbrev pub mapped : {X : Type 0} → (X → X) → ℕ → List X → List X
@@ -53,38 +53,23 @@ module _ {X : Type 0} (f : X → X) where
   mapped_all zero (x ∷ xs) h = absurd (omega arith)
   mapped_all (suc i) (x ∷ xs) h = ap (λ l. f x ∷ l) (mapped_all i xs (omega arith))
 
--- the next of the accounts items, whose first i have had their new day
-module _ (t : Table) (items : List Account) (i : ℕ) (e : map to_account items ≡ mapped new_day i (accounts_of t)) (h : i < length items) where
-  pub below : i < length (accounts_of t)
-  below = let n = rw length-map at (ap length e ∙ mapped_length new_day i (accounts_of t)) in omega arith
+-- the next of the accounts items, of which the first i have had their new day, before that the rules' accounts xs
+module _ (xs : List Rule.Account) (items : List Account) (i : ℕ) (e : map to_account items ≡ mapped new_day i xs) (h : i < length items) where
+  pub below : i < length xs
+  below = let n = rw length-map at (ap length e ∙ mapped_length new_day i xs) in omega arith
 
-  pub old_one : (d : Account) → to_account (get_or items i d) ≡ get_or (accounts_of t) i blank
-  old_one d = sym (map_get_or to_account items i d blank h) ∙ ap (λ l. get_or l i blank) e ∙ mapped_next new_day i (accounts_of t) blank below
+  pub old_one : (d : Account) → to_account (get_or items i d) ≡ get_or xs i blank
+  old_one d = sym (map_get_or to_account items i d blank h) ∙ ap (λ l. get_or l i blank) e ∙ mapped_next new_day i xs blank below
 
-  pub new_one : (y d : Account) → to_account y ≡ new_day (to_account (get_or items i d)) → map to_account (set items i y) ≡ mapped new_day (i + 1) (accounts_of t)
+  pub new_one : (y d : Account) → to_account y ≡ new_day (to_account (get_or items i d)) → map to_account (set items i y) ≡ mapped new_day (i + 1) xs
   new_one y d f =
       map_set to_account items i y
       ∙ ap₂ (λ l x. set l i x) e (f ∙ ap new_day (old_one d))
-      ∙ mapped_one new_day i (accounts_of t) blank below
-      ∙ ap (λ n. mapped new_day n (accounts_of t)) (sym (add-one i))
+      ∙ mapped_one new_day i xs blank below
+      ∙ ap (λ n. mapped new_day n xs) (sym (add-one i))
 
--- all of them
-pub renewed : (t : Table) → Good t → (items rest : List Account) (i : ℕ) → map to_account items ≡ mapped new_day i (accounts_of t) → t.count ≡ length (accounts_of t) → length items ≤ i
-    → Holds t (record { codes = t.codes; accounts = items ++ rest; count = t.count; day = t.day }) (map new_day (accounts_of t))
-unfolding machine_of with_accounts accounts_of
-renewed t g items rest i e l h =
-    let same = rw length-map at (ap length e ∙ mapped_length new_day i (accounts_of t)) in
-    let accounts : map to_account (take t.count (items ++ rest)) ≡ map new_day (accounts_of t) =
-    ap (λ n. map to_account (take n (items ++ rest))) (l ∙ sym same) ∙ ap (map to_account) (take-append_seam items rest) ∙ e ∙ mapped_all new_day i (accounts_of t) (omega arith) in
-    record {
-      within = g.within;
-      same = g.same ∙ sym (codes_map new_day tame_new_day.code_kept (accounts_of t)) ∙ ap codes (sym accounts);
-      view = ap (λ xs. with_accounts xs (machine_of t)) accounts;
-    }
-
--- what a new day asks of an account
-abbrev pub Ready : Rule.Account → Type 0
-Ready x = Sized x × T (limit_ok x.ltk) × T (limit_ok x.lpo)
+pub all_mapped : (xs : List Rule.Account) (items : List Account) (i : ℕ) → map to_account items ≡ mapped new_day i xs → length items ≤ i → map to_account items ≡ map new_day xs
+all_mapped xs items i e h = let n = rw length-map at (ap length e ∙ mapped_length new_day i xs) in e ∙ mapped_all new_day i xs (omega arith)
 
 pub ready : (t : Table) → Good t → All Ready (accounts_of t)
 unfolding machine_of
@@ -101,9 +86,20 @@ pub day_answer : (t : Table) (d : ℕ) → d < 2 ^ 32 → answer (machine_of t) 
 unfolding answer call checks well_formed is_day first_failure machine_of
 day_answer t d h = ap (λ b. cond b (cond (ltb t.day d) 0 13) 1) (lt-ltb d (2 ^ 32) h)
 
-pub opened_called : (t : Table) → Good t → (u : Table) → Holds t u (map new_day (accounts_of t)) → (d : ℕ) → answer (machine_of t) (call (Opening d)) ≡ 0
-    → Called (Opening d) t (record { answer = 0; table = record { codes = u.codes; accounts = u.accounts; count = u.count; day = d } })
+as_many : (t : Table) → Good t → length t.accounts ≡ 64 → (items : List Account) → map to_account items ≡ map new_day (accounts_of t) → length items ≡ t.count
+as_many t g long items e = (rw (length-map, length-map) at (ap {B = ℕ} length e)) ∙ accounts_length t g.within long
+
+pub still_long : (t : Table) → Good t → length t.accounts ≡ 64 → (items : List Account) → map to_account items ≡ map new_day (accounts_of t) → length (items ++ drop t.count t.accounts) ≡ 64
+still_long t g long items e = omega (arith, length-append items (drop t.count t.accounts), length-drop t.count t.accounts, as_many t g long items e, long, g.within)
+
+-- all accounts have had their new day, and the day is another
+pub opened_called : (t : Table) → Good t → length t.accounts ≡ 64 → (items rest : List Account) → map to_account items ≡ map new_day (accounts_of t) → (d : ℕ) → answer (machine_of t) (call (Opening d)) ≡ 0
+    → Called (Opening d) t (record { answer = 0; table = record { codes = t.codes; accounts = items ++ rest; count = t.count; day = d } })
 unfolding machine_of accounts_of with_accounts effect keep_from
-opened_called t g u h d z =
-    accepted (Opening d) t g (record { codes = u.codes; accounts = u.accounts; count = u.count; day = d }) z h.within h.same
-    (ap (λ (m : Machine). record { day = d; accounts = m.accounts; ids = [] }) h.view)
+opened_called t g long items rest e d z =
+    let n : length items ≡ t.count = as_many t g long items e in
+    let accounts : map to_account (take t.count (items ++ rest)) ≡ map new_day (accounts_of t) =
+    ap (λ n. map to_account (take n (items ++ rest))) (sym n) ∙ ap (map to_account) (take-append_seam items rest) ∙ e in
+    accepted (Opening d) t (record { codes = t.codes; accounts = items ++ rest; count = t.count; day = d }) z g.within
+    (g.same ∙ sym (codes_map new_day tame_new_day.code_kept (accounts_of t)) ∙ ap codes (sym accounts))
+    (ap (λ (xs : List Rule.Account). record { day = d; accounts = xs; ids = [] }) accounts)

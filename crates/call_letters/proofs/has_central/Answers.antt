@@ -11,5 +11,6 @@ use Rattle.call_letters.proofs.has_central.Goals as goal
 pub returns : goal.returns
 unfolding accounts_of to_account
 returns c =
-    any_from_yields_List (λ x. x.marked) _ _ _ c.any.ensures.ran (YieldsList-from_slice (take c.args.t.now.count c.args.t.now.accounts) cc) (λ x b q k. search (rules, tests))
-    ∙ some_of (λ x. x.marked) (take c.args.t.now.count c.args.t.now.accounts)
+    rw (← c.t.view_is)
+    (any_from_yields_List (λ x. x.marked) _ _ _ c.any.ensures.ran (YieldsList-from_slice (take c.t.inside.count c.t.inside.accounts) cc) (λ x b q k. search (rules, tests))
+    ∙ some_of (λ x. x.marked) (take c.t.inside.count c.t.inside.accounts))

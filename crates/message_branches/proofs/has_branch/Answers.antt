@@ -10,6 +10,7 @@ use Rattle.message_branches.proofs.has_branch.Goals as goal
 pub returns : goal.returns
 unfolding accounts_of
 returns c =
-    let xs = take c.args.t.now.count c.args.t.now.accounts in
-    any_from_yields_List (λ x. owned_by c.args.sender (to_account x).owner) _ _ c.any.result c.any.ensures.ran (YieldsList-from_slice xs cc) (λ x b q k. search (rules, tests))
-    ∙ some_viewed (λ x. owned_by c.args.sender x.owner) xs
+    let xs = take c.t.inside.count c.t.inside.accounts in
+    rw (← c.t.view_is)
+    (any_from_yields_List (λ x. owned_by c.args.sender (to_account x).owner) _ _ c.any.result c.any.ensures.ran (YieldsList-from_slice xs cc) (λ x b q k. search (rules, tests))
+    ∙ some_viewed (λ x. owned_by c.args.sender x.owner) xs)

@@ -11,42 +11,35 @@ use Rattle.rules.specs.Search.{selects}
 use Rattle.rules.proofs.Selection.{length_id}
 use Rattle.frame_fields.specs.Conditions.{conditions_in}
 use Rattle.search_set.specs.Sets.{set_of}
+use Rattle.table.specs.Inside.{table_of}
 use Rattle.table.specs.View.{accounts_of}
 use Rattle.search_selection.proofs.Marks.{none_marked, marked_below, marked_more, counted, found_selects}
-use Rattle.search_selection.proofs.select.Goals.{Start}
 use Rattle.search_selection.proofs.select.Goals.{then-meets_one, else-meets_one}
 use Rattle.search_selection.proofs.select.Goals as goal
 
-long : (s : Start) → length s.args.t.now.codes ≡ 64
-long s = search rules
-
 pub loop-i-init : goal.loop-i-init
 loop-i-init c = none_marked
-
-pub offset_bounds-t-i : goal.offset_bounds-t-i
-offset_bounds-t-i c = omega (arith, c.requires.0.within)
-
-pub bounds-t-i : goal.bounds-t-i
-bounds-t-i c = omega (arith, c.requires.0.within)
 
 pub account_id-requires : goal.account_id-requires
 account_id-requires c = tt
 
 pub meets_one-requires : goal.meets_one-requires
 meets_one-requires c =
-    (c.requires.1, ap length c.account_id.ensures ∙ length_id _)
+    (c.requires, ap length c.account_id.ensures ∙ length_id _)
 
 pub with_place-set-requires : goal.with_place-set-requires
 with_place-set-requires c =
-    let n = counted c.args.t.now c.requires.0 (long (goal.at.with_place-set-requires c).Start) in
-    (omega (arith, c.requires.0.within), rw c.loop-i.invariant (marked_below (selects (conditions_in c.args.n c.args.b.now)) (accounts_of c.args.t.now) c.loop-i.i (omega arith)))
+    let long : length c.t.inside.codes ≡ 64 = search rules in
+    let n = counted (table_of c.t.inside) c.t.invariant.good long in
+    (omega (arith, c.t.invariant.good.within), rw c.loop-i.invariant (marked_below (selects (conditions_in c.args.n c.args.b.now)) (accounts_of (table_of c.t.inside)) c.loop-i.i (omega arith)))
 
 pub loop-i-preserved : goal.loop-i-preserved
 loop-i-preserved c =
+    let long : length c.t.inside.codes ≡ 64 = search rules in
     let p = selects (conditions_in c.args.n c.args.b.now) in
-    let xs = accounts_of c.args.t.now in
-    let n = counted c.args.t.now c.requires.0 (long (goal.at.loop-i-preserved c).Start) in
-    let q = found_selects c.args.t.now c.requires.0 (long (goal.at.loop-i-preserved c).Start) (conditions_in c.args.n c.args.b.now) c.loop-i.i blank _ c.meets_one.result (omega arith) c.account_id.ensures c.meets_one.ensures in
+    let xs = accounts_of (table_of c.t.inside) in
+    let n = counted (table_of c.t.inside) c.t.invariant.good long in
+    let q = found_selects (table_of c.t.inside) c.t.invariant.good long (conditions_in c.args.n c.args.b.now) c.loop-i.i blank _ c.meets_one.result (omega arith) c.account_id.ensures c.meets_one.ensures in
     let e = marked_more p xs c.loop-i.i blank c.meets_one.result (omega arith) q in
     let S = set_of (map p (take c.loop-i.i xs)) in
     elim c.if-meets_one.branch [
@@ -56,11 +49,13 @@ loop-i-preserved c =
 
 pub returns-clause-says : goal.returns-clause-says
 returns-clause-says c =
-    let n = counted c.args.t.now c.requires.0 (long (goal.at.returns-clause-says c).Start) in
-    c.loop-i.invariant ∙ rw (take_all c.loop-i.i (accounts_of c.args.t.now) (omega arith))
+    let long : length c.t.inside.codes ≡ 64 = search rules in
+    let n = counted (table_of c.t.inside) c.t.invariant.good long in
+    rw (← c.t.view_is) (c.loop-i.invariant ∙ rw (take_all c.loop-i.i (accounts_of (table_of c.t.inside)) (omega arith)))
 
 pub returns-clause-below : goal.returns-clause-below
 returns-clause-below c =
-    let n = counted c.args.t.now c.requires.0 (long (goal.at.returns-clause-below c).Start) in
-    let e : c.loop-i.i ≡ c.args.t.now.count = omega arith in
-    subst (λ (m : ℕ). c.loop-i.set < 2 ^ m) e (rw c.loop-i.invariant (marked_below (selects (conditions_in c.args.n c.args.b.now)) (accounts_of c.args.t.now) c.loop-i.i (omega arith)))
+    let long : length c.t.inside.codes ≡ 64 = search rules in
+    let n = counted (table_of c.t.inside) c.t.invariant.good long in
+    let e : c.loop-i.i ≡ c.t.inside.count = omega arith in
+    rw (← c.t.view_is) (subst (λ (m : ℕ). c.loop-i.set < 2 ^ m) e (rw c.loop-i.invariant (marked_below (selects (conditions_in c.args.n c.args.b.now)) (accounts_of (table_of c.t.inside)) c.loop-i.i (omega arith))))

@@ -1,4 +1,4 @@
-use mathlib.Core.Path.{◌≡◌, ◌∙◌}
+use mathlib.Core.Path.{◌≡◌}
 use native.Mathlib.Omega.{arith}
 use borrow.Author.Rules.{rules}
 use borrow.Author.Tests.{tests}
@@ -16,4 +16,4 @@ returns c =
     let codes = take c.args.n c.args.all.now in
     let found : c.position.result ≡ position (λ d. eqb d c.args.code) codes =
     position_from_yields_List (λ d. eqb d c.args.code) _ _ _ c.position.ensures.ran (YieldsList-from_slice codes cc) (λ x b q k. search (rules, tests)) in
-    c.unwrap_or.ensures ∙ position_place c.args.code c.args.n codes _ (omega (arith, length-take-le c.args.n c.args.all.now (omega arith))) found
+    position_place c.args.code c.args.n c.args.all.now _ (length-take-le c.args.n c.args.all.now (omega arith)) found

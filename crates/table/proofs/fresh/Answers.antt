@@ -15,6 +15,10 @@ map-replicate : {A B : Type 0} (f : A → B) (a : A) (n : ℕ) → map f (replic
 map-replicate f a zero = refl
 map-replicate f a (suc n) = ap (λ l. f a ∷ l) (map-replicate f a n)
 
+pub invariant_of-result : goal.invariant_of-result
+unfolding machine_of accounts_of empty codes
+invariant_of-result c = record { good = record { within = omega arith; same = refl; inv = start_inv }; long = refl }
+
 pub returns : goal.returns
 unfolding machine_of accounts_of empty codes to_owner
 returns c = (

@@ -23,9 +23,9 @@ overflow_sub-i c = omega (arith, found (goal.at.overflow_sub-i c).Then-w-lt128)
 pub returns-then-i-n : goal.returns-then-i-n
 returns-then-i-n c =
     let f = found (goal.at.returns-then-i-n c).Then-w-lt128 in
-    omega (arith, f, place_within c.args.code c.args.n c.args.all.now (omega (arith, f, c.if-i-n.true)))
+    (omega (arith, f, place_within c.args.code c.args.n c.args.all.now (omega (arith, f, c.if-i-n.true))), c.if-i-n.true)
 
-pub returns-then-w-lt128 : goal.returns-then-w-lt128
-returns-then-w-lt128 c =
-    let f = found (goal.at.returns-then-w-lt128 c).Then-w-lt128 in
+pub returns-else-i-n : goal.returns-else-i-n
+returns-else-i-n c =
+    let f = found (goal.at.returns-else-i-n c).Then-w-lt128 in
     omega (arith, place_behind c.args.code c.args.n c.args.all.now (omega (arith, f, c.if-i-n.false)) (omega (arith, c.requires.0, c.requires.1)))
