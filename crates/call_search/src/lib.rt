@@ -11,7 +11,7 @@ ghost use Rattle.command.specs.View.{to_header};
 ghost use Rattle.search_set.specs.Sets.{set_of};
 ghost use Rattle.table.specs.View.{accounts_of};
 ghost use Rattle.ledger.specs.View.{ledger_view, lent};
-ghost use Rattle.ledger.specs.Promise.{SoundLedger, Reports};
+ghost use Rattle.ledger.specs.Promise.{Reports};
 
 use command::{Header, is_header};
 use frame_fields::conditions_end;
@@ -19,7 +19,7 @@ use ledger::Ledger;
 use message_inquiry::header_checks;
 use refusal::{Refusal, check};
 use report_search::put_search;
-use rules::is_few;
+use rules::is_count;
 use search_selection::select;
 
 // Whether there are 1 to 8 conditions, all well-formed.
@@ -27,25 +27,23 @@ use search_selection::select;
 fn conditions_fit(texts: &[u8], n: usize) -> bool
     ensures { result ≡ (is_few n && are_conditions n texts.now) }
 {
-    is_few(n) && conditions_end(texts, 0, n).is_some()
+    is_count::<8>(n) && conditions_end(texts, 0, n).is_some()
 }
 
 // The checks of a search with a report buffer of `room` bytes; the set of the places of the selected accounts.
 fn search_checks(
     l: &Ledger,
     header: Header,
-    id: &[u8; 32],
     texts: &[u8; 160],
     n: usize,
     room: usize,
 ) -> Result<u64, Refusal>
-    requires { SoundLedger l.now }
-    ensures says { answer_of result ≡ answer (ledger_view l.now) (lent room (Search (to_header header id.now) (conditions_in n texts.now))) }
+    ensures says { answer_of result ≡ answer (ledger_view l.now) (lent room (Search (to_header header) (conditions_in n texts.now))) }
     ensures ready { IfOk result (λ set. (8192 ≤ room) × (l.now.book.used < 1024) × (set < 2 ^ l.now.table.count)) }
     ensures set { IfOk result (λ set. set ≡ set_of (map (selects (conditions_in n texts.now)) (accounts_of l.now.table))) }
 {
     let formed = is_header(header) & conditions_fit(texts, n) & (8192 <= room);
-    header_checks(l, formed, header, id)?;
+    header_checks(l, formed, header)?;
     let set = select(&l.table, texts, n);
     check(set != 0, Refusal::NothingFound)?;
     check(!l.book.is_full(), Refusal::BookFull)?;
@@ -56,18 +54,15 @@ fn search_checks(
 pub fn search(
     l: &mut Ledger,
     header: Header,
-    id: [u8; 32],
     texts: [u8; 160],
     n: usize,
     report: &mut [u8],
 ) -> Result<usize, Refusal>
-    requires { SoundLedger l.old }
-    ensures reports { Reports (Search (to_header header id) (conditions_in n texts) ∷ []) l.old report.old result l.new report.new }
+    ensures reports { Reports (Search (to_header header) (conditions_in n texts) ∷ []) l.old report.old result l.new report.new }
     ensures table { l.new.table ≡ l.old.table }
 {
-    let set = search_checks(l, header, &id, &texts, n, report.len())?;
+    let set = search_checks(l, header, &texts, n, report.len())?;
     let length = put_search(&l.table, header.sender, set, report);
-    let today = l.table.day;
-    l.book.add(&id, today);
+    l.book.add(&header.id, l.table.today());
     Ok(length)
 }

@@ -19,10 +19,10 @@ use Rattle.book.specs.Entries.{Added}
 use Rattle.book.proofs.Laws.{untouched}
 use Rattle.ledger.specs.declared.Ledger.{Ledger}
 use Rattle.ledger.specs.View.{view_of, ledger_view, lent, outcome_of, next_of}
-use Rattle.ledger.specs.Promise.{SoundLedger, Reports}
+use Rattle.ledger.specs.Promise.{Reports}
 use Rattle.ledger.proofs.Laws.{unchanged, next_sound, next_effect, noted}
 
-module _ (k : Command) (l : Ledger) (report : List ℕ) (g : SoundLedger l) where
+module _ (k : Command) (l : Ledger) (report : List ℕ) where
   -- a refusal writes nothing
   pub declined : (r : Result ℕ Refusal) (e : Refusal) → r ≡ Err e → number e ≡ answer (ledger_view l) (lent (length report) k) → Reports (k ∷ []) l report r l report
   unfolding ledger_view outcome_of next_of outcome write
@@ -37,7 +37,7 @@ module _ (k : Command) (l : Ledger) (report : List ℕ) (g : SoundLedger l) wher
         fits = omega arith;
         refused = λ z. unchanged l.table l.book.ids l.book.days l.book.used;
         behind = untouched l.book.ids l.book.days l.book.used;
-        sound = g;
+        sound = λ g. g;
       })
 
   -- the report is written and the id joins the book
@@ -53,7 +53,7 @@ module _ (k : Command) (l : Ledger) (report : List ℕ) (g : SoundLedger l) wher
       ap (view_of u.table u.book.ids u.book.days) more
       ∙ noted l.table u.table l.book.ids l.book.days l.book.used u.book.ids u.book.days h (accounts_of l.table) (ap (λ t. t.day) same) (ap accounts_of same) b
       ∙ sym step
-      ∙ next_effect k l.table l.book.ids l.book.days l.book.used g (length report) e in
+      ∙ next_effect k l.table l.book.ids l.book.days l.book.used (length report) e in
       record {
         says = ap (λ r. record { answer = 0; report = r }) read ∙ sym (ap (λ (a : ℕ). record { answer = a; report = if_accepted a bs [] }) e);
         moves = moved;
@@ -61,5 +61,5 @@ module _ (k : Command) (l : Ledger) (report : List ℕ) (g : SoundLedger l) wher
         fits = z;
         refused = λ r. absurd (r refl);
         behind = rw more b.behind;
-        sound = next_sound k l.table l.book.ids l.book.days l.book.used g (length report) u.table u.book.ids u.book.days u.book.used (rw same g.within) (rw same g.same) (omega arith) b.lengths moved;
+        sound = λ g. next_sound k l.table l.book.ids l.book.days l.book.used g (length report) u.table u.book.ids u.book.days u.book.used (rw same g.within) (rw same g.same) (omega arith) b.lengths moved;
       }

@@ -8,7 +8,6 @@ ghost use Rattle.rules.specs.Message as Message;
 ghost use Rattle.refusal.specs.Answer.{answer_of};
 ghost use Rattle.table.specs.View.{accounts_of};
 ghost use Rattle.book.specs.Entries.{book_of};
-ghost use Rattle.ledger.specs.Promise.{SoundLedger};
 
 use command::Header;
 use ledger::Ledger;
@@ -16,15 +15,14 @@ use message_fields::{is_current, is_message_id};
 use refusal::{Refusal, check};
 
 // `formed` is the check of the frame and of the report buffer's length.
-#[tactic(auto, using(ledger::proofs::Laws::good_table), unfolding(rules::specs::Machine::first_failure))]
-pub fn header_checks(l: &Ledger, formed: bool, header: Header, id: &[u8; 32]) -> Result<(), Refusal>
-    requires { SoundLedger l.now }
-    ensures says { answer_of result ≡ first_failure ((1, formed) ∷ (4, known header.sender (accounts_of l.now.table)) ∷ (14, not (Message.in_book id.now (book_of l.now.book))) ∷ (16, Message.is_message_id id.now) ∷ (17, Message.is_current l.now.table.day header.day) ∷ []) }
+#[tactic(auto, unfolding(rules::specs::Machine::first_failure))]
+pub fn header_checks(l: &Ledger, formed: bool, header: Header) -> Result<(), Refusal>
+    ensures says { answer_of result ≡ first_failure ((1, formed) ∷ (4, known header.sender (accounts_of l.now.table)) ∷ (14, not (Message.in_book header.id (book_of l.now.book))) ∷ (16, Message.is_message_id header.id) ∷ (17, Message.is_current l.now.table.day header.day) ∷ []) }
     ensures formed { IfOk result (λ _. formed ≡ true) }
 {
     check(formed, Refusal::IllFormed)?;
     l.table.find(header.sender).ok_or(Refusal::Unknown)?;
-    check(!l.book.has(id), Refusal::IdTaken)?;
-    check(is_message_id(id), Refusal::IllFormedId)?;
+    check(!l.book.has(&header.id), Refusal::IdTaken)?;
+    check(is_message_id(&header.id), Refusal::IllFormedId)?;
     check(is_current(l.table.day, header.day), Refusal::NotCurrent)
 }

@@ -4,7 +4,6 @@
 ghost use Rattle.std.specs.Prelude.{◌≡◌};
 ghost use Rattle.rules.specs.Machine.{first_failure};
 ghost use Rattle.refusal.specs.Answer.{answer_of};
-ghost use Rattle.table.specs.Promise.{Good};
 ghost use Rattle.table.specs.View.{accounts_of};
 ghost use Rattle.message_item_checks.specs.Items.{item_checks};
 
@@ -15,7 +14,6 @@ use table::Table;
 
 // Each check runs over all items before the next begins.
 pub fn item_checks(t: &Table, header: Header, items: &[Item]) -> Result<(), Refusal>
-    requires { Good t.now }
     ensures { answer_of result ≡ first_failure (item_checks header (accounts_of t.now) items.now) }
 {
     check(are_later(t, header, items), Refusal::MomentNotLater)?;

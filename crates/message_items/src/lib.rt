@@ -1,32 +1,31 @@
 // The items of a change as a list of records, each with the code that its account id names, and the checks that run over a list of them.
 #![tactic(auto)]
 
-ghost use Rattle.std.specs.Prelude.{◌≡◌, map, ◌≤◌};
+ghost use Rattle.std.specs.Prelude.{◌≡◌, map, ◌≤◌, length};
 ghost use Rattle.std.specs.List.{list_all};
-ghost use Rattle.amount.specs.Amount as Amount;
 ghost use Rattle.rules.specs.Message as Message;
-ghost use Rattle.command.specs.View.{items_from};
-ghost use Rattle.table.specs.Promise.{Good};
+ghost use Rattle.command.specs.View.{to_item};
 ghost use Rattle.table.specs.View.{accounts_of};
-ghost use Rattle.message_items.specs.Records.{record_of, is_later_in};
+ghost use Rattle.message_items.specs.Records.{record_of, is_later_in, is_ranged};
 
 use account::Moment;
 use amount::is_limit;
 use arrayvec::ArrayVec;
-use command::Header;
+use command::{ChangeItem, Header};
 use message_branches::{is_branch_of, is_later};
 use message_fields::{is_type, named};
 use table::Table;
 
-// The code of the account, the type of the limit, and its value.
+// The code of the account, the type of the limit, and the value that a change sets; a deletion sets none. The type is the frame's byte and no enum: check 19
+// refuses any but 1 and 2.
 #[derive(Clone, Copy, Default)]
 pub struct Item {
     pub code: u32,
     pub kind: u8,
-    pub value: i64,
+    pub value: Option<i64>,
 }
 
-// When a message was made.
+// When a message was made. No `From`: both types are of other crates.
 pub fn moment_of(header: Header) -> Moment
     ensures { result ≡ record { day = header.day; second = header.second } }
 {
@@ -36,30 +35,24 @@ pub fn moment_of(header: Header) -> Moment
     }
 }
 
-// The first n items of a change.
-pub fn records(
-    accounts: [u8; 160],
-    types: [u8; 16],
-    values: [i64; 16],
-    n: usize,
-) -> ArrayVec<Item, 16>
-    requires { n ≤ 16 }
-    ensures { result.items ≡ map record_of (items_from 0 n accounts types values) }
+// The items of a change.
+pub fn records(items: &[ChangeItem]) -> ArrayVec<Item, 16>
+    requires { length items.now ≤ 16 }
+    ensures { result.items ≡ map record_of (map to_item items.now) }
 {
-    let mut items = ArrayVec::new();
-    for i in 0..n {
-        items.push(Item {
-            code: named(&accounts, i * 10),
-            kind: types[i],
-            value: values[i],
+    let mut records = ArrayVec::new();
+    for item in items {
+        records.push(Item {
+            code: named(&item.account, 0),
+            kind: item.kind,
+            value: Some(item.value),
         });
     }
-    items
+    records
 }
 
 // Check 18: the message is later than the last of each of the sender's branches that it names.
 pub fn are_later(t: &Table, header: Header, items: &[Item]) -> bool
-    requires { Good t.now }
     ensures { result ≡ list_all (λ i. is_later_in header (accounts_of t.now) i.code) items.now }
 {
     let moment = moment_of(header);
@@ -77,7 +70,6 @@ pub fn are_typed(items: &[Item]) -> bool
 
 // Check 20: each item names a branch of the sender's.
 pub fn are_owned(t: &Table, sender: u32, items: &[Item]) -> bool
-    requires { Good t.now }
     ensures { result ≡ list_all (λ i. Message.is_branch_of sender i.code (accounts_of t.now)) items.now }
 {
     items.iter().all(|item| is_branch_of(t, sender, item.code))
@@ -85,7 +77,7 @@ pub fn are_owned(t: &Table, sender: u32, items: &[Item]) -> bool
 
 // Check 6.
 pub fn are_ranged(items: &[Item]) -> bool
-    ensures { result ≡ list_all (λ i. Amount.is_limit i.value) items.now }
+    ensures { result ≡ list_all (λ i. is_ranged i.value) items.now }
 {
-    items.iter().all(|item| is_limit(item.value))
+    items.iter().all(|item| item.value.is_none_or(is_limit))
 }

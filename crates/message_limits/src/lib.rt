@@ -1,28 +1,62 @@
-// A limit of one account, set by an item of a change or deleted, and the message's moment put on the account.
+// The limits that a message names, set by the items of a change or deleted, and the message's moment put on their accounts.
 #![tactic(auto)]
 
-ghost use Rattle.std.specs.Prelude.{◌≡◌, List, ℕ};
-ghost use Rattle.rules.specs.Account.{Value};
+ghost use Rattle.std.specs.Prelude.{◌≡◌, map, take};
+ghost use Rattle.rules.specs.Account.{adjust};
 ghost use Rattle.rules.specs.Message as Message;
 ghost use Rattle.command.specs.View.{to_header};
-ghost use Rattle.account.specs.View.{to_account};
+ghost use Rattle.account.specs.View.{to_account, to_limit};
+ghost use Rattle.message_limits.specs.Setting.{setting, in_use, Listed, set_records};
 
 use account::{Account, Limit, LimitType};
 use command::Header;
 use message_items::{Item, moment_of};
+use table::place;
 
-// The account with an item's limit set.
-pub fn set_item(x: Account, item: Item, header: Header) -> Account
-    ensures { (id : List ℕ) → to_account result ≡ Message.touch (to_header header id) item.kind (λ l. Value item.value) (to_account x) }
+// What a value makes of a limit: an item without one deletes it.
+#[tactic(auto, unfolding(account::specs::View::to_limit))]
+fn set_to(limit: Limit, value: Option<i64>) -> Limit
+    ensures { to_limit result ≡ setting value (to_limit limit) }
 {
-    let limit_type = LimitType::from(item.kind);
-    x.touched(limit_type, Limit::Value(item.value), moment_of(header))
+    match value {
+        Some(v) => Limit::Value(v),
+        None => limit.cleared(),
+    }
 }
 
-// The account with one limit deleted.
-pub fn deleted(x: Account, kind: u8, header: Header) -> Account
-    ensures { (id : List ℕ) → to_account result ≡ Message.touch (to_header header id) kind Message.cleared (to_account x) }
+// The account with an item's limit set, or deleted.
+pub fn set_item(x: Account, item: Item, header: Header) -> Account
+    ensures { to_account result ≡ Message.touch (to_header header) item.kind (setting item.value) (to_account x) }
 {
-    let limit_type = LimitType::from(kind);
-    x.touched(limit_type, x.limit(limit_type).cleared(), moment_of(header))
+    let limit_type = LimitType::from(item.kind);
+    let limit = set_to(x.limit(limit_type), item.value);
+    x.touched(limit_type, limit, moment_of(header))
+}
+
+// An item set in place. One that has passed the checks names an account of the table.
+fn store(codes: &[u32; 64], accounts: &mut [Account; 64], count: usize, header: Header, item: Item)
+    requires { Listed codes.now accounts.old count }
+    ensures listed { Listed codes.now accounts.new count }
+    ensures accounts { in_use accounts.new count ≡ adjust item.code (Message.touch (to_header header) item.kind (setting item.value)) (in_use accounts.old count) }
+{
+    if let Some(i) = place(codes, count, item.code) {
+        accounts[i] = set_item(accounts[i], item, header);
+    }
+}
+
+// All of them, in order. They are lent a table's fields: between two items the accounts need not be those of a table of the rules.
+pub fn set_items(
+    codes: &[u32; 64],
+    accounts: &mut [Account; 64],
+    count: usize,
+    header: Header,
+    items: &[Item],
+)
+    requires { Listed codes.now accounts.old count }
+    ensures listed { Listed codes.now accounts.new count }
+    ensures accounts { in_use accounts.new count ≡ set_records (to_header header) items.now (in_use accounts.old count) }
+{
+    for item in items {
+        store(codes, accounts, count, header, *item);
+    }
 }

@@ -1,9 +1,9 @@
--- The records so far are those of the first i items. Assumes nothing.
-use Rattle.std.proofs.Common.{◌≡◌, map}
+-- The records so far are those of the items so far. Assumes nothing.
+use Rattle.std.proofs.Common.{◌≡◌, map, take}
 use Rattle.arrayvec.specs.ArrayVec.{array_vec_len}
-use Rattle.command.specs.View.{items_from}
+use Rattle.command.specs.View.{to_item}
 use Rattle.message_items.specs.Records.{record_of}
 use Rattle.message_items.proofs.records.Given as goal
 
-abbrev pub invariant-loop-i : goal.invariant-loop-i
-invariant-loop-i l = (array_vec_len l.items ≡ l.i) × (l.items.items ≡ map record_of (items_from 0 l.i l.accounts l.types l.values))
+abbrev pub invariant-loop-item : goal.invariant-loop-item
+invariant-loop-item l = (array_vec_len l.records ≡ l.item-index) × (l.records.items ≡ map record_of (map to_item (take l.item-index l.items)))
