@@ -15,6 +15,7 @@ pub const REPORT_ROOM: usize = 8192;
 const ANSWER_ROOM: usize = 2 * REPORT_ROOM + 3;
 
 // The end of the line that begins at `from`, where a whole line and room for the longest answer line are left.
+#[tactic(auto, using(crate::proofs::Next::no_room, crate::proofs::Next::end_none, crate::proofs::Next::end_some))]
 pub fn next_end(lines: &[u8], from: usize, room: usize) -> Option<usize>
     requires { from ≤ length lines.now }
     ensures { MatchOption result (next_end lines.now from room ≡ length lines.now) (λ e. (e ≡ next_end lines.now from room) × (e < length lines.now)) }
@@ -26,6 +27,7 @@ pub fn next_end(lines: &[u8], from: usize, room: usize) -> Option<usize>
 }
 
 // Writes the answer line of a report from `at` on, and gives the place behind it.
+#[tactic(auto, using(crate::proofs::Laws::line_done))]
 pub fn write_line(out: &mut [u8], at: usize, answer: u64, report: &[u8]) -> usize
     requires { (at + (2 * length report.now + 3) ≤ length out.old) × (answer < 100) }
     ensures { (out.new ≡ write out.old at (printed answer report.now)) × (result ≡ at + (2 * length report.now + 3)) }

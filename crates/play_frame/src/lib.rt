@@ -4,7 +4,7 @@
 ghost use Rattle.std.specs.Prelude.{◌≡◌, true};
 ghost use Rattle.frame.specs.Frame.{commands_of, is_frame};
 ghost use Rattle.refusal.specs.Answer.{answer_of};
-ghost use Rattle.ledger.specs.Promise.{SoundLedger, Reports, length_of};
+ghost use Rattle.ledger.specs.Promise.{Reports, length_of};
 
 use call_accounts::{bank_open, branch_open};
 use call_bank_limits::bank_limits;
@@ -32,16 +32,12 @@ fn unreported(call: Result<(), Refusal>) -> Result<usize, Refusal>
 
 // The command that the bytes hold is played; where they hold none, they are ill-formed, and nothing changes. The length of the report comes back.
 pub fn step(l: &mut Ledger, frame: &[u8], report: &mut [u8]) -> Result<usize, Refusal>
-    requires { SoundLedger l.old }
     ensures { Reports (commands_of frame.now) l.old report.old result l.new report.new }
 {
-    let order = parse(frame);
-    let id = order.id;
-    let accounts = order.accounts;
-    let types = order.types;
-    let values = order.values;
-    match order.command {
-        Command::Nothing => Err(Refusal::IllFormed),
+    let Some(command) = parse(frame) else {
+        return Err(Refusal::IllFormed);
+    };
+    match command {
         Command::Bank(c) => unreported(bank_open(&mut l.table, c)),
         Command::Branch(code, owner, ltk, lpo) => {
             unreported(branch_open(&mut l.table, code, owner, ltk, lpo))
@@ -58,21 +54,20 @@ pub fn step(l: &mut Ledger, frame: &[u8], report: &mut [u8]) -> Result<usize, Re
             };
             unreported(pay(&mut l.table, transfer))
         }
-        Command::Change(h, n) => unreported(change(l, h, id, accounts, types, values, n)),
-        Command::Deletion(h, kind) => unreported(deletion(l, h, id, accounts, kind)),
-        Command::Query(h, n) => query(l, h, id, accounts, n, report),
+        Command::Change(h, n, items) => unreported(change(l, h, items, n)),
+        Command::Deletion(h, account, kind) => unreported(deletion(l, h, account, kind)),
+        Command::Query(h, n, ids) => query(l, h, ids, n, report),
         Command::Opening(day) => unreported(open(l, day)),
-        Command::Search(h, n) => search(l, h, id, accounts, n, report),
+        Command::Search(h, n, texts) => search(l, h, texts, n, report),
         Command::Letters(c, letters) => unreported(set_letters(&mut l.table, c, letters)),
         Command::Mark(c) => unreported(mark_bank(&mut l.table, c)),
     }
 }
 
-// The same of bytes that are a frame. A payment's is taken apart without the arrays that other kinds need: most lines are payments, and one takes a tenth more
-// time through `step`.
+// The same of bytes that are a frame. A payment's is taken apart here, and not by `parse`, which tests again that they are one: most lines are payments, and one
+// takes a quarter more instructions through `step`.
 pub fn play(l: &mut Ledger, frame: &[u8], report: &mut [u8]) -> Result<usize, Refusal>
-    requires sound { SoundLedger l.old }
-    requires formed { is_frame frame.now ≡ true }
+    requires { is_frame frame.now ≡ true }
     ensures { Reports (commands_of frame.now) l.old report.old result l.new report.new }
 {
     if frame[0] == 6 {

@@ -110,7 +110,7 @@ module _ (m : Machine) {ids₀ days₀ : List ℕ} (input out : List ℕ) (t : T
       let machine = sym s.moves ∙ line_next_lem t ids days used l report r ids' days' report' s (played m ls) p.state room in
       record {
         lines = ls ++ (l ∷ []);
-        sound = s.sound;
+        sound = s.sound p.sound;
         within = omega arith;
         text = rw is (next_joined input read e q h ls p.text);
         rest = rw is (next_whole input read e q h ls p.rest);

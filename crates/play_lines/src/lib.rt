@@ -5,12 +5,11 @@ ghost use Rattle.std.specs.Prelude.{◌≡◌, ◌+◌, ◌*◌, ◌≤◌, ◌<
 ghost use Rattle.octets.specs.Octets.{write};
 ghost use Rattle.refusal.specs.Answer.{answer_of};
 ghost use Rattle.frame.specs.Frame.{commands_of, line_frame};
-ghost use Rattle.frame_reader.specs.Unpacked.{DigitValues};
-ghost use Rattle.ledger.specs.Promise.{SoundLedger, Reports, length_of};
+ghost use Rattle.ledger.specs.Promise.{Reports, length_of};
 ghost use Rattle.lines.specs.Text.{printed};
 ghost use Rattle.play_lines.specs.Run.{RunIs};
 
-use frame_reader::{digit_values, unpack_frame};
+use frame_reader::{DigitTable, digit_values, unpack_frame};
 use ledger::Ledger;
 use lines::{REPORT_ROOM, next_end, write_line};
 use play_frame::play;
@@ -28,15 +27,13 @@ fn play_line(
     l: &mut Ledger,
     line: &[u8],
     frame: &mut [u8],
-    values: &[u8],
+    table: &DigitTable,
     report: &mut [u8],
 ) -> Result<usize, Refusal>
-    requires sound { SoundLedger l.old }
-    requires room { 352 ≤ length frame.old }
-    requires values { DigitValues values.now }
+    requires { 352 ≤ length frame.old }
     ensures { Reports (commands_of (line_frame line.now)) l.old report.old result l.new report.new }
 {
-    let n = unpack_frame(line, frame, values).ok_or(Refusal::IllFormed)?;
+    let n = unpack_frame(line, frame, table).ok_or(Refusal::IllFormed)?;
     play(l, &frame[..n], report)
 }
 
@@ -54,19 +51,20 @@ fn write_answer(out: &mut [u8], at: usize, played: Result<usize, Refusal>, repor
     }
 }
 
-// Plays the whole lines of `lines` in order, as long as `out` has room for the longest answer line.
+// Plays the whole lines of `lines` in order, as long as `out` has room for the longest answer line. It looks at the record first, so that what its type says of
+// the record is known: what is promised of the book's bytes rests on it.
 pub fn play_lines(l: &mut Ledger, lines: &[u8], out: &mut [u8]) -> Extent
-    requires { SoundLedger l.old }
     ensures { RunIs l.old lines.now out.old result l.new out.new }
 {
-    let values = digit_values();
+    let _ = &l.table;
+    let table = digit_values();
     let mut frame = [0u8; 352];
     let mut report = [0u8; REPORT_ROOM];
     let mut read: usize = 0;
     let mut written: usize = 0;
     while let Some(end) = next_end(lines, read, out.len() - written) {
         let line = &lines[read..end];
-        let played = play_line(l, line, &mut frame, &values, &mut report);
+        let played = play_line(l, line, &mut frame, &table, &mut report);
         written = write_answer(out, written, played, &report);
         read = end + 1;
     }

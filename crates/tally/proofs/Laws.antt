@@ -10,9 +10,8 @@ use lib.ListN.{length, take, drop, length-take, length-drop, length-append}
 use lib.Seq.{take-add, take_at, drop_at, take-take, length-take-le}
 use borrow.Rule.Slice.PartMut.{put_mid}
 use borrow.Author.Tests.{eq-eqb, eqb-true}
-use Rattle.std.specs.Prelude.{Option, Some, None, Result, Ok, Err, OnOk, is_ok, is_err}
+use Rattle.std.specs.Prelude.{Option, Some, None, Result, Ok, Err, is_err}
 use Rattle.std.specs.Io.KnownBytes.{Consumes, Appends, IsAtEnd, ReadConsumes}
-use Rattle.std.specs.Result.{result_unwrap_or}
 use Rattle.std.specs.declared.io.Error.{Error}
 use Rattle.std.proofs.lemmas.Slice.{take-put_mid_below}
 use Rattle.octets.specs.Octets.{write}
@@ -28,7 +27,7 @@ use Rattle.tally_feed.specs.Reads as Fed
 use Rattle.tally_feed.specs.Reads.{begun, Reads, start, next}
 use Rattle.tally_feed.proofs.Theorem.{input_answered, same_end, none_left}
 use Rattle.tally.specs.Progress.{Progress, started, written, broken, Ready, PlayedIs, PutIs, wrote, unwritten, AllAnswered, Over, WholeAnswered}
-use Rattle.tally.specs.ReadOn.{ReadIs, Rests, ReadOnIs, taken, took, stays, ends, reads, fails, none}
+use Rattle.tally.specs.ReadOn.{ReadIs, Rests, ReadOnIs, stays, ends, reads, fails, none}
 
 -- ---- the buffer
 
@@ -55,11 +54,6 @@ pub last_within : (left n : ℕ) → left < n → left + length (last_end left) 
 unfolding last_end
 last_within zero n h = omega arith
 last_within (suc k) n h = omega arith
-
--- a read that did not fail and gave no byte
-pub none_read : {E : Type 0} (r : Result ℕ E) {n : ℕ} → false ≡ is_err r → n ≡ result_unwrap_or r 0 → n ≡ 0 → r ≡ Ok 0
-none_read (Ok k) f e z = ap Ok (sym e ∙ z)
-none_read (Err x) f e z = absurd (false≢true f)
 
 pub none_given : {E : Type 0} {r : Result ℕ E} (known known' : Option (List ℕ)) (part : List ℕ) → ReadConsumes known known' r part → r ≡ Ok 0 → 0 < length part
     → Consumes known known' [] × IsAtEnd known'
@@ -133,15 +127,6 @@ module _ (buf mid : List ℕ) (left : ℕ) (h : left < length buf) (m : length m
       none_left = λ e. absurd (false≢true e);
     }
 
-pub failed : {p r : Progress} {buf buf' : List ℕ} {known known' : Option (List ℕ)} → r ≡ broken p → ReadOnIs p buf known (broken p) buf' known' → ReadOnIs p buf known r buf' known'
-failed {p} {r} {buf} {buf'} {known} {known'} e h = subst (λ (x : Progress). ReadOnIs p buf known x buf' known') (sym e) h
-
-pub took_is : {p r : Progress} {n : ℕ} {ended : Bool} (said : Result ℕ Error) {buf buf' : List ℕ} {known known' : Option (List ℕ)} → r ≡ taken p n ended → p.over ≡ false
-    → ReadOnIs p buf known (took p (record { said = said; n = n; ended = ended; failed = false })) buf' known' → ReadOnIs p buf known r buf' known'
-took_is {p} {r} {n} {ended} said {buf} {buf'} {known} {known'} e o h =
-    subst (λ (x : Progress). ReadOnIs p buf known x buf' known')
-    (sym (e ∙ ap (λ (b : Bool). record { fed = p.fed; n = n; ended = ended; over = b; failed = false; reads = p.reads - 1 }) o)) h
-
 -- ---- known bytes
 
 pub consumes_then : (a b c : Option (List ℕ)) (xs ys : List ℕ) → Consumes a b xs → Consumes b c ys → Consumes a c (xs ++ ys)
@@ -163,11 +148,6 @@ consumes_none (Some a) = refl
 appends_none : (a : Option (List ℕ)) → Appends a a []
 appends_none None = tt
 appends_none (Some a) = sym (append-nil a)
-
--- a write that did not fail
-pub at_ok : {T E : Type 0} {P : Type 0} (r : Result T E) → OnOk r P → is_ok r ≡ true → P
-at_ok (Ok x) p e = p
-at_ok (Err x) p e = absurd (false≢true e)
 
 -- ---- a call of `feed`
 
@@ -415,10 +395,3 @@ module _ {left₀ left held₀ held : Option (List ℕ)} {q : Progress} {ids day
   turned {s} {b} {left'} (wrote e a) h =
       turn_on on g long room p.fed a (subst (λ (x : Progress). ReadOnIs x buf' left s b left') (e ∙ ap written p.rest) h)
   turned {s} {b} {left'} (unwritten e) h = turn_off on g long room p.fed (subst (λ (x : Progress). ReadOnIs x buf' left s b left') (e ∙ ap broken p.rest) h)
-
--- ---- a write
-
-pub put_is : {p r : Progress} {out : List ℕ} {held held' : Option (List ℕ)} (ok : Bool) → (ok ≡ true → Appends held held' (take p.fed.waiting out))
-    → r ≡ cond ok (written p) (broken p) → PutIs p out held held' r
-put_is true a e = wrote e (a refl)
-put_is false a e = unwritten e

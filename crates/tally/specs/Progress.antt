@@ -8,7 +8,30 @@ use Rattle.tally_feed.specs.Feed.{Fed, FedIs, fed_of}
 use Rattle.tally_feed.specs.Reads as Fed
 use Rattle.tally_feed.specs.Reads.{begun, input_lines, Answered}
 use Rattle.tally.specs.declared.progress.Progress as Code
+use Rattle.tally.specs.declared.progress.Stage.{Stage}
+use Rattle.tally.specs.declared.progress.Stage.TheVariants.{Reading, Ending, Done, Failed}
 use Rattle.tally.specs.declared.progress.Finished.{Finished}
+
+-- whether the input has ended
+abbrev pub ended : Stage → Bool
+ended Reading = false
+ended Ending = true
+ended Done = true
+ended (Failed e) = e
+
+-- whether there is nothing left to do
+abbrev pub over : Stage → Bool
+over Reading = false
+over Ending = false
+over Done = true
+over (Failed e) = true
+
+-- whether a read or a write failed
+abbrev pub failed : Stage → Bool
+failed Reading = false
+failed Ending = false
+failed Done = false
+failed (Failed e) = true
 
 -- what `feed` gave last; how many bytes were read behind what it left; whether the input has ended; whether there is nothing left to do; whether a read or a
 -- write failed; how many reads may still be made
@@ -22,7 +45,7 @@ pub record Progress : Type 0 where
 
 -- where the program stands, the book's arrays left out
 abbrev pub progress_of : Code.Progress → Progress
-progress_of p = record { fed = fed_of p.ledger p.counts; n = p.n; ended = p.ended; over = p.over; failed = p.failed; reads = p.reads }
+progress_of p = record { fed = fed_of p.ledger p.counts; n = p.n; ended = ended p.stage; over = over p.stage; failed = failed p.stage; reads = p.reads }
 
 -- ---- the states, by equation
 
@@ -110,7 +133,7 @@ pub record Over (p : Progress) : Type 0 where
 
 -- so it is at the program's end
 abbrev pub Served : Finished → Type 0
-Served r = (r.failed ≡ true) ⊎ AllAnswered r.ledger.table r.ledger.book.used
+Served r = (failed r.stage ≡ true) ⊎ AllAnswered r.ledger.table r.ledger.book.used
 
 -- a record is that of an input that was read to its end, and the answers to all its lines are what was written: of what the input had left and the output held
 -- before and after, where that is known
@@ -126,4 +149,4 @@ pub record WholeAnswered (left left' held held' : Option (List ℕ)) (t : Table)
 
 -- so it is at the end: a read or a write failed, or the whole input is answered
 abbrev pub WholeServed : Option (List ℕ) → Option (List ℕ) → Option (List ℕ) → Option (List ℕ) → Finished → Type 0
-WholeServed left left' held held' r = (r.failed ≡ true) ⊎ WholeAnswered left left' held held' r.ledger.table r.ledger.book.used
+WholeServed left left' held held' r = (failed r.stage ≡ true) ⊎ WholeAnswered left left' held held' r.ledger.table r.ledger.book.used

@@ -31,10 +31,6 @@ pub record Rests (p : Progress) (buf : List ℕ) : Type 0 where
   pub none_waits : p.over ≡ false → p.fed.waiting ≡ 0
   pub room : p.over ≡ false → p.fed.read ≡ 0 → p.fed.left < length buf
 
--- once a read left so many bytes, the last or not
-abbrev pub taken : Progress → ℕ → Bool → Progress
-taken p n ended = record { fed = p.fed; n = n; ended = ended; over = p.over; failed = false; reads = p.reads - 1 }
-
 -- once something was read
 abbrev pub took : Progress → Got → Progress
 took p r = record { fed = p.fed; n = r.n; ended = r.ended; over = false; failed = false; reads = p.reads - 1 }

@@ -1,28 +1,54 @@
 // Where the program stands between its calls. The fields are this module's own: who plays the input can hand a `Progress` on and cannot make one up, so it
 // cannot say itself that no answer waits, that nothing was read, or that the input has ended.
-ghost use Rattle.std.specs.Prelude.{◌≡◌, true, cond, ◌<◌, ◌≤◌, length};
+ghost use Rattle.std.specs.Prelude.{◌≡◌, OnOk, cond, ◌-◌, ◌<◌, ◌≤◌, length};
 ghost use Rattle.std.specs.Io.KnownBytes.{Appends};
 ghost use Rattle.std.specs.Process.{exit_status};
 ghost use Rattle.lines.specs.Text.{answer_room};
-ghost use Rattle.tally.specs.Progress.{progress_of, started, broken, Ready, PlayedIs, Given, Waiting, PutIs, Over};
-ghost use Rattle.tally.specs.ReadOn.{Rests, ReadOnIs, taken};
+ghost use Rattle.tally.specs.Progress.{ended, over, failed, progress_of, started, broken, Ready, PlayedIs, Given, Waiting, PutIs, Over};
+ghost use Rattle.tally.specs.ReadOn.{Rests, ReadOnIs};
+ghost use Rattle.tally.specs.declared.progress.Stage.TheVariants.{Reading, Failed};
 
 use ledger::Ledger;
-use std::io::{Read, Write};
+use std::io::{self, Read, Write};
 use std::process::ExitCode;
 use tally_feed::{Counts, feed};
 use tally_kept::end_line;
 
-// The record; what `feed` counted last; how many bytes were read behind what it left; whether the input has ended; whether there is nothing left to do; whether a
-// read or a write failed; how many reads may still be made.
+// What is said on standard error where the program ends before its input does.
+const UNREAD: &[u8] = b"tally: standard input cannot be read\n";
+
+const UNWRITTEN: &[u8] = b"tally: standard output cannot be written\n";
+
+// How far the program is: it reads; the input has ended, and lines of it may be left; all of them are answered; a read or a write failed, with whether the input had
+// ended before.
+#[derive(Clone, Copy)]
+enum Stage {
+    Reading,
+    Ending,
+    Done,
+    Failed { ended: bool },
+}
+
+impl Stage {
+    // Where a read or a write fails.
+    fn broken(self) -> Stage
+        ensures { result ≡ Failed (ended self) }
+    {
+        match self {
+            Stage::Reading => Stage::Failed { ended: false },
+            Stage::Ending | Stage::Done => Stage::Failed { ended: true },
+            Stage::Failed { .. } => self,
+        }
+    }
+}
+
+// The record; what `feed` counted last; how many bytes were read behind what it left; how far it is; how many reads may still be made.
 #[derive(Drop)]
 pub struct Progress {
     ledger: Ledger,
     counts: Counts,
     n: usize,
-    ended: bool,
-    over: bool,
-    failed: bool,
+    stage: Stage,
     reads: u64,
 }
 
@@ -30,29 +56,15 @@ pub struct Progress {
 #[derive(Drop)]
 pub struct Finished {
     ledger: Ledger,
-    failed: bool,
-}
-
-// Says on standard error that the program ends before its input does.
-fn tell_unread(rt: &HostRuntime) {
-    let _ = rt
-        .stderr()
-        .write_all(b"tally: standard input cannot be read\n");
-}
-
-// The same of standard output, where not all was written.
-fn tell_unwritten(rt: &HostRuntime) {
-    let _ = rt
-        .stderr()
-        .write_all(b"tally: standard output cannot be written\n");
+    stage: Stage,
 }
 
 // Hands bytes to the output. What reaches standard output no contract can say; so it is asked too that they are the answers that wait, all of them.
-fn write_answers<W: Write>(output: &mut W, p: &Progress, answers: &[u8]) -> bool
+fn write_answers<W: Write>(output: &mut W, p: &Progress, answers: &[u8]) -> io::Result<()>
     requires { Waiting (progress_of p.now) answers.now }
-    ensures { result ≡ true → Appends (W.contents output.old) (W.contents output.new) answers.now }
+    ensures { OnOk result (Appends (W.contents output.old) (W.contents output.new) answers.now) }
 {
-    output.write_all(answers).is_ok()
+    output.write_all(answers)
 }
 
 impl Progress {
@@ -68,17 +80,15 @@ impl Progress {
                 waiting: 0,
             },
             n: 0,
-            ended: false,
-            over: false,
-            failed: false,
+            stage: Stage::Reading,
             reads: u64::MAX,
         }
     }
 
     pub fn is_over(&self) -> bool
-        ensures { result ≡ self.now.over }
+        ensures { result ≡ over self.now.stage }
     {
-        self.over
+        matches!(self.stage, Stage::Done | Stage::Failed { .. })
     }
 
     // Plays the whole lines of what was left and of what was read behind it, as far as `out` has room.
@@ -90,13 +100,13 @@ impl Progress {
         self.n = 0;
     }
 
-    // Where reading or writing failed, it is over.
-    fn stop(&mut self)
+    // Where a read or a write failed, that is said, and it is over.
+    fn stop(&mut self, rt: &HostRuntime, message: &[u8])
         ensures { (progress_of self.new ≡ broken (progress_of self.old)) × (self.new.ledger ≡ self.old.ledger) }
     {
+        let _ = rt.stderr().write_all(message);
         self.n = 0;
-        self.over = true;
-        self.failed = true;
+        self.stage = self.stage.broken();
     }
 
     // Writes the answers that wait in `out`, which is what `play` left.
@@ -106,84 +116,77 @@ impl Progress {
         ensures same { self.new.ledger ≡ self.old.ledger }
     {
         let waiting = self.counts.waiting;
-        let ok = write_answers(output, self, &out[..waiting]);
-        if !ok {
-            tell_unwritten(rt);
-            self.stop();
-            return;
+        match write_answers(output, self, &out[..waiting]) {
+            Ok(()) => self.counts.waiting = 0,
+            Err(_) => self.stop(rt, UNWRITTEN),
         }
-        self.counts.waiting = 0;
     }
 
-    // Takes n bytes that a read left behind what was left; whether they are the last is said too.
-    fn take(&mut self, n: usize, ended: bool)
+    // Takes n bytes that a read left behind what was left.
+    fn take(&mut self, n: usize, stage: Stage)
         requires { 0 < self.old.reads }
-        ensures { (progress_of self.new ≡ taken (progress_of self.old) n ended) × (self.new.ledger ≡ self.old.ledger) }
+        ensures { self.new ≡ record { ledger = self.old.ledger; counts = self.old.counts; n = n; stage = stage; reads = self.old.reads - 1 } }
     {
         self.n = n;
-        self.ended = ended;
-        self.failed = false;
+        self.stage = stage;
         self.reads -= 1;
     }
 
-    // The input cannot be read on.
-    fn give_up(&mut self, rt: &HostRuntime)
-        ensures { (progress_of self.new ≡ broken (progress_of self.old)) × (self.new.ledger ≡ self.old.ledger) }
-    {
-        tell_unread(rt);
-        self.stop();
-    }
-
-    // Where no line was played, none is left: then more is read, and where the input has ended, it is over. At the end of the input the last line gets its end,
-    // where it lacks it.
-    pub fn read_on<R: Read>(&mut self, rt: &HostRuntime, input: &mut R, buf: &mut [u8])
-        requires { Rests (progress_of self.old) buf.old }
+    // Reads behind what was left. At the end of the input the last line gets its end, where it lacks it.
+    fn read<R: Read>(&mut self, rt: &HostRuntime, input: &mut R, buf: &mut [u8])
+        requires { (Rests (progress_of self.old) buf.old) × (self.old.stage ≡ Reading) × (self.old.counts.read ≡ 0) }
         ensures read { ReadOnIs (progress_of self.old) buf.old (R.remaining input.old) (progress_of self.new) buf.new (R.remaining input.new) }
         ensures same { self.new.ledger ≡ self.old.ledger }
     {
-        if self.over {
-            return;
-        }
-        if self.counts.read != 0 {
-            return;
-        }
-        if self.ended {
-            self.n = 0;
-            self.over = true;
-            return;
-        }
         if self.reads == 0 {
-            return self.give_up(rt);
+            return self.stop(rt, UNREAD);
         }
         let left = self.counts.left;
         match input.read(&mut buf[left..]) {
             Ok(0) => {
                 let end = end_line(buf, left);
-                self.take(end, true)
+                self.take(end, Stage::Ending)
             }
-            Ok(n) => self.take(n, false),
-            Err(_) => self.give_up(rt),
+            Ok(n) => self.take(n, Stage::Reading),
+            Err(_) => self.stop(rt, UNREAD),
+        }
+    }
+
+    // Where no line was played, none is left: then more is read, and where the input has ended, it is over.
+    #[tactic(auto, using(crate::specs::ReadOn::stays))]
+    pub fn read_on<R: Read>(&mut self, rt: &HostRuntime, input: &mut R, buf: &mut [u8])
+        requires { Rests (progress_of self.old) buf.old }
+        ensures read { ReadOnIs (progress_of self.old) buf.old (R.remaining input.old) (progress_of self.new) buf.new (R.remaining input.new) }
+        ensures same { self.new.ledger ≡ self.old.ledger }
+    {
+        if self.counts.read != 0 {
+            return;
+        }
+        match self.stage {
+            Stage::Reading => self.read(rt, input, buf),
+            Stage::Ending => self.stage = Stage::Done,
+            Stage::Done | Stage::Failed { .. } => {}
         }
     }
 
     // The end, and nothing else gives it: it is asked that nothing is left to do.
     pub fn finish(self) -> Finished
         requires { Over (progress_of self) }
-        ensures { result ≡ record { ledger = self.ledger; failed = self.failed } }
+        ensures { result ≡ record { ledger = self.ledger; stage = self.stage } }
     {
         Finished {
             ledger: self.ledger,
-            failed: self.failed,
+            stage: self.stage,
         }
     }
 }
 
 // The status that the program ends with: 1 where a read or a write failed, else 0.
 pub fn status(f: Finished) -> ExitCode
-    ensures { exit_status result ≡ cond f.failed 1 0 }
+    ensures { exit_status result ≡ cond (failed f.stage) 1 0 }
 {
-    if f.failed {
-        return ExitCode::FAILURE;
+    match f.stage {
+        Stage::Failed { .. } => ExitCode::FAILURE,
+        _ => ExitCode::SUCCESS,
     }
-    ExitCode::SUCCESS
 }

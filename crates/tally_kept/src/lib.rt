@@ -16,6 +16,7 @@ fn kept_length(from: usize, n: usize) -> usize
 
 // Moves what stands from `from` up to `len` to the front, and gives how many bytes of it are kept: all, or its first 1,024 where no line was played, `from`
 // being 0, so that it is a begun line.
+#[tactic(auto, using(crate::proofs::Laws::kept_most, octets::proofs::Places::moved_front))]
 pub fn keep(buf: &mut [u8], from: usize, len: usize) -> usize
     requires { (from ≤ len) × (len ≤ length buf.old) }
     ensures { (buf.new ≡ write buf.old 0 (part from (kept_length from (len - from)) buf.old)) × (result ≡ kept_length from (len - from)) }
@@ -26,6 +27,7 @@ pub fn keep(buf: &mut [u8], from: usize, len: usize) -> usize
 }
 
 // Gives the last line its end where it has a byte, and gives how many bytes that end has.
+#[tactic(auto, using(crate::proofs::Laws::last_one), unfolding(crate::specs::Kept::last_end, octets::specs::Octets::write))]
 pub fn end_line(buf: &mut [u8], kept: usize) -> usize
     requires { kept < length buf.old }
     ensures { (buf.new ≡ write buf.old kept (last_end kept)) × (result ≡ length (last_end kept)) }

@@ -16,14 +16,4 @@ returns-in_err-n c =
     let e : commands_of (line_frame c.args.line.now) ≡ [] = ap commands_of none ∙ frame_none [] refl in
     let a : answer_of c.from_residual.result ≡ 1 = grind arith in
     let z : length_of c.from_residual.result ≡ 0 = grind arith in
-    by_none (commands_of (line_frame c.args.line.now)) c.args.l.now c.args.report.now c.from_residual.result e c.requires.sound a z
-
-pub returns : goal.returns
-returns c =
-    let f = rw c.in_ok-n.ensures.ok_part at c.unpack_frame.ensures.frame in
-    rw f.1.frame_is at c.play.ensures
-
-pub play-requires-clause-formed : goal.play-requires-clause-formed
-play-requires-clause-formed c =
-    let f = rw c.in_ok-n.ensures.ok_part at c.unpack_frame.ensures.frame in
-    rw f.1.frame_is f.0
+    by_none (commands_of (line_frame c.args.line.now)) c.args.l.now c.args.report.now c.from_residual.result e a z

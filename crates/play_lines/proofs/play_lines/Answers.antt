@@ -1,14 +1,15 @@
 -- The loop of `play_lines`. Assumes nothing.
-use mathlib.Core.Path.{◌∙◌, refl, sym}
+use mathlib.Core.Path.{◌∙◌, refl, sym, subst}
 use mathlib.Core.Logic.{⊎_elim, inl, inr}
 use Prim.Native.Nat.{◌≤◌, ◌+◌, ◌-◌}
 use native.Mathlib.Omega.{arith}
 use borrow.Author.Rules.{rules}
 use lib.ListN.{length}
+use Rattle.ledger.specs.Promise.{SoundLedger}
 use Rattle.ledger.specs.View.{ledger_view}
 use Rattle.lines.specs.Text.{answer_room}
 use Rattle.lines.proofs.Next.{NextIs, next_is}
-use Rattle.play_lines.proofs.Laws.{forward, fits, small, same_report, begin, turn, all_chosen}
+use Rattle.play_lines.proofs.Laws.{forward, fits, same_report, begin, turn, all_chosen}
 use Rattle.play_lines.proofs.play_lines.Goals.{In-Some}
 use Rattle.play_lines.proofs.play_lines.Goals as goal
 
@@ -25,16 +26,13 @@ roomy c = omega (arith, fits _ _ _ _ _ _ _ _ _ _ _ c.loop-end.invariant.0 (next 
 pub loop-end-init : goal.loop-end-init
 unfolding ledger_view
 loop-end-init c =
-    (begin c.args.lines.now c.args.out.now _ _ _ _ c.requires, refl, search rules, search rules)
+    (begin c.args.lines.now c.args.out.now _ _ _ _ (subst SoundLedger c.l.view_is c.l.invariant), refl, search rules, search rules)
 
 pub slice_bounds-line-count : goal.slice_bounds-line-count
 slice_bounds-line-count c = ahead (goal.at.slice_bounds-line-count c).In-Some
 
 pub slice_bounds-line-start : goal.slice_bounds-line-start
 slice_bounds-line-start c = ahead (goal.at.slice_bounds-line-start c).In-Some
-
-pub write_answer-written-requires-clause-answer : goal.write_answer-written-requires-clause-answer
-write_answer-written-requires-clause-answer c = small _ _ _ _ _ _ _ _ _ _ c.play_line-played.ensures
 
 pub write_answer-written-requires-clause-room : goal.write_answer-written-requires-clause-room
 write_answer-written-requires-clause-room c =

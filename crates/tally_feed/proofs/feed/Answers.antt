@@ -1,12 +1,11 @@
 -- The text is played, and what is behind the lines played is left. Assumes nothing.
-use mathlib.Core.Path.{sym, ap, ◌∙◌}
+use mathlib.Core.Path.{ap, ◌∙◌}
 use mathlib.Core.List.{List}
 use Prim.Native.Nat.{◌+◌, ◌≤◌}
 use native.Mathlib.Omega.{arith}
 use lib.Seq.{length-take-le}
 use Rattle.octets.specs.Octets.{write}
 use Rattle.tally_feed.proofs.Buffer.{left_bytes, left_count}
-use Rattle.tally_feed.proofs.Theorem.{sofar}
 use Rattle.tally_feed.proofs.feed.Goals.{After-play_lines-played}
 use Rattle.tally_feed.proofs.feed.Goals as goal
 
@@ -14,15 +13,6 @@ use Rattle.tally_feed.proofs.feed.Goals as goal
 within : (c : After-play_lines-played) → c.play_lines-played.result.read ≤ c.args.c.left + c.args.n
 within c =
     omega (arith, c.play_lines-played.ensures.passed.within, length-take-le (c.args.c.left + c.args.n) c.args.buf.now c.requires.1)
-
-pub slice_bounds-play_lines-end-2 : goal.slice_bounds-play_lines-end-2
-slice_bounds-play_lines-end-2 c = sym (length-take-le (c.args.c.left + c.args.n) c.args.buf.now c.requires.1)
-
-pub play_lines-played-requires : goal.play_lines-played-requires
-play_lines-played-requires c = (sofar c.requires.0.1.reads).reached.sound
-
-pub keep-requires : goal.keep-requires
-keep-requires c = (within (goal.at.keep-requires c).After-play_lines-played, c.requires.1)
 
 pub returns : goal.returns
 returns c =
