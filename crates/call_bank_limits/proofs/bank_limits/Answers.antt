@@ -35,7 +35,7 @@ taken c =
     (rw (to_z-of_z c.ranges.ltk, to_z-of_z c.ranges.lpo) at c.with_limits.ensures) (grind (arith, fits_money)) refl
 
 pub invariant_of-t : goal.invariant_of-t
-invariant_of-t c = kept c.t.invariant.good (taken c) (simp length-set c.t.invariant.long)
+invariant_of-t c = kept c.t.invariant.good (taken (goal.at.invariant_of-t c).After-with_limits) (simp length-set c.t.invariant.long)
 
 pub returns : goal.returns
-returns c = rw (← c.t.view_is) (taken c)
+returns c = rw (← c.t.view_is) (taken (goal.at.returns c).After-with_limits)

@@ -110,10 +110,10 @@ settled c =
     (rw c.today.ensures at c.add.ensures.ids) c.add.ensures.used refl
 
 pub invariant_of-t : goal.invariant_of-t
-invariant_of-t c = record { good = good_table _ _ _ _ ((settled c).sound c.l.invariant); long = c.set_items.ensures.listed.long }
+invariant_of-t c = record { good = good_table _ _ _ _ ((settled (goal.at.invariant_of-t c).After-set_items).sound c.l.invariant); long = c.set_items.ensures.listed.long }
 
 pub invariant_of-l : goal.invariant_of-l
-invariant_of-l c = (settled c).sound c.l.invariant
+invariant_of-l c = (settled (goal.at.invariant_of-l c).After-set_items).sound c.l.invariant
 
 pub returns : goal.returns
-returns c = rw (← c.l.view_is) (settled c)
+returns c = rw (← c.l.view_is) (settled (goal.at.returns c).After-set_items)

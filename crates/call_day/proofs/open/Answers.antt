@@ -24,7 +24,7 @@ opened c =
     (rw c.today-ending.ensures at c.forget_before.ensures)
 
 pub invariant_of-l-2 : goal.invariant_of-l-2
-invariant_of-l-2 c = (opened c).sound c.l.invariant
+invariant_of-l-2 c = (opened (goal.at.invariant_of-l-2 c).After-forget_before).sound c.l.invariant
 
 pub returns : goal.returns
 returns c = rw (← c.l.view_is) (opened (goal.at.returns c).After-forget_before)

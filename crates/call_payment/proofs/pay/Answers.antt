@@ -27,7 +27,7 @@ paid c = let d = c.in_ok-parties.ensures in
     booked (table_of c.t.inside) c.t.invariant.good c.args.p _ (rw (← c.t.view_is) at d.parties) d.amount _ _ c.bank_booked.ensures _ c.own_booked.ensures _ c.bank_booked-2.ensures (sym (rw (← c.t.view_is) at d.says)) _ c.own_booked-2.ensures
 
 pub invariant_of-t : goal.invariant_of-t
-invariant_of-t c = kept c.t.invariant.good (paid c) (simp length-set c.t.invariant.long)
+invariant_of-t c = kept c.t.invariant.good (paid (goal.at.invariant_of-t c).After-own_booked-2) (simp length-set c.t.invariant.long)
 
 pub returns : goal.returns
-returns c = rw (← c.t.view_is) (paid c)
+returns c = rw (← c.t.view_is) (paid (goal.at.returns c).After-own_booked-2)

@@ -34,10 +34,10 @@ answered c =
     (omega (arith, c.put_report-length.ensures.behind, most, ready, length-take c.args.n c.args.ids))
 
 pub invariant_of-l : goal.invariant_of-l
-invariant_of-l c = (answered c).sound c.l.invariant
+invariant_of-l c = (answered (goal.at.invariant_of-l c).After-add).sound c.l.invariant
 
 pub returns-clause-reports : goal.returns-clause-reports
-returns-clause-reports c = rw (← c.l.view_is) (answered c)
+returns-clause-reports c = rw (← c.l.view_is) (answered (goal.at.returns-clause-reports c).After-add)
 
 pub returns-clause-table : goal.returns-clause-table
 returns-clause-table c = ap (λ (l : Ledger). l.table) c.l.view_is
