@@ -32,7 +32,7 @@ impl Side {
     }
 }
 
-// Between the bookings of one payment a turnover may be above 10^17.
+// Whether there is room up to 10^17 is tested before, and not asked here.
 pub fn raised(mut x: Account, turnover: Turnover, n: u64) -> Account
     requires { Rule.turnover (to_turnover turnover) (to_account x).turnovers + n < 2 ^ 64 }
     ensures { to_account result ≡ Payment.raised (to_turnover turnover) n (to_account x) }

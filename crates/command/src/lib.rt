@@ -103,7 +103,7 @@ fn items_at(b: &[u8], n: usize) -> [ChangeItem; 16]
     items
 }
 
-// The account ids of a query, n rows of 10 bytes. By places, as the items: a proof knows nothing of elements written through `iter_mut`.
+// The account ids of a query, n rows of 10 bytes. By places, as the items: each row stands at a place of its own in the frame.
 fn ids_at(b: &[u8], n: usize) -> [[u8; 10]; 16]
     requires { (n ≤ 16) × (48 + n * 10 ≤ length b.now) }
     ensures { ids_from 0 n result ≡ map id_of (rows_value id_row n (drop 48 b.now)) }

@@ -88,7 +88,7 @@ enum Failure {
     Unwritten,
 }
 
-// Echoes the lines of an input, read by read: what came of a read is written before the next.
+// Echoes the lines of an input, read by read: what came of a read is written before the next. The reads are counted, since a loop has to end.
 fn echo_all<R: Read, W: Write>(input: &mut R, output: &mut W) -> Result<(), Failure>
     ensures { OnOk result (InputEchoed (R.remaining input.old) (R.remaining input.new) (W.contents output.old) (W.contents output.new)) }
 {

@@ -11,7 +11,7 @@ use digits::is_digit;
 use frame::frame_length;
 use std::marker::Model;
 
-// A lowercase hexadecimal digit.
+// A lowercase hexadecimal digit: std's test takes capitals, too.
 fn is_hex(d: u8) -> bool
     ensures { result ≡ is_hex d }
 {
@@ -29,7 +29,8 @@ fn all_hex(line: &[u8]) -> bool
     all
 }
 
-// The value of each hexadecimal digit, at the digit's own place. It is made once for many lines: a look-up is faster than the sum.
+// The value of each hexadecimal digit, at the digit's own place. It is made once for many lines: a look-up is faster than the sum. The
+// loop that makes it goes by places, since a place is what its value is made of.
 #[derive(Drop)]
 pub struct DigitTable {
     pub values: [u8; 128],
@@ -65,7 +66,7 @@ fn digit_value(table: &DigitTable, d: u8) -> u8
     table.values[d as usize]
 }
 
-// The n bytes of a line of 2 * n hexadecimal digits. They are written by their places: a proof knows nothing of elements written through `iter_mut`.
+// The n bytes of a line of 2 * n hexadecimal digits. They are written by their places, since each is of the two digits at twice its own.
 fn decode(line: &[u8], n: usize, buf: &mut [u8], table: &DigitTable)
     requires { (length line.now ≡ 2 * n) × (n ≤ length buf.old) × (all_hex line.now ≡ true) }
     ensures { buf.new ≡ unhex line.now ++ drop n buf.old }

@@ -134,7 +134,7 @@ fn write_command(w: &mut Writer, command: Command)
 }
 
 // Writes the frame of a command from byte 0 on and returns its length. Where the command is none or out of range, or the buffer has under 352 bytes, it
-// returns 0 and leaves the buffer as it was: a length and no Option, for a shell in C, as the reader gives.
+// returns 0 and leaves the buffer as it was. A length and no Option: none is a frame of no bytes, so one equation says both (`Filled`).
 pub fn write_frame(command: Option<Command>, frame: &mut [u8]) -> usize
     ensures { Filled (write_frame (commands command) (length frame.old)) frame.old frame.new result }
 {

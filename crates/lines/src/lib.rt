@@ -26,7 +26,7 @@ pub fn next_end(lines: &[u8], from: usize, room: usize) -> Option<usize>
     Some(from + memchr(b'\n', &lines[from..])?)
 }
 
-// Writes the answer line of a report from `at` on, and gives the place behind it.
+// Writes the answer line of a report from `at` on, and gives the place behind it. The answer's two digits are bytes of a lent buffer, where std prints a text.
 #[tactic(auto, using(crate::proofs::Laws::line_done))]
 pub fn write_line(out: &mut [u8], at: usize, answer: u64, report: &[u8]) -> usize
     requires { (at + (2 * length report.now + 3) ≤ length out.old) × (answer < 100) }

@@ -25,7 +25,7 @@ pub struct Item {
     pub value: Option<i64>,
 }
 
-// When a message was made. No `From`: both types are of other crates.
+// When a message was made. No `From`: it would stand beside one of the two types, and neither's crate is below the other's.
 pub fn moment_of(header: Header) -> Moment
     ensures { result ≡ record { day = header.day; second = header.second } }
 {

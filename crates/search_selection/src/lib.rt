@@ -23,7 +23,8 @@ pub fn account_id(code: u32) -> [u8; 10]
     id
 }
 
-// Whether an id meets at least one of n conditions, which stand one after the other in the bytes. Behind the one at hand `left` are left.
+// Whether an id meets at least one of n conditions, which stand one after the other in the bytes. Behind the one at hand `left` are left: the loop counts
+// them for the proof, since a condition has no width that is known before.
 pub fn meets_one(b: &[u8], n: usize, id: &[u8]) -> bool
     requires { (ConditionsFirst n b.now) × (length id.now ≡ 10) }
     ensures { result ≡ some? (Search.meets id.now) (conditions_in n b.now) }

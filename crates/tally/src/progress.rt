@@ -42,7 +42,8 @@ impl Stage {
     }
 }
 
-// The record; what `feed` counted last; how many bytes were read behind what it left; how far it is; how many reads may still be made.
+// The record; what `feed` counted last; how many bytes were read behind what it left; how far it is; how many reads may still be made, since
+// a loop has to end.
 #[derive(Drop)]
 pub struct Progress {
     ledger: Ledger,

@@ -10,7 +10,8 @@ use ledger::Ledger;
 use play_lines::play_lines;
 use tally_kept::keep;
 
-// How many bytes in front of the text buffer are left; how many bytes were played last; how many bytes in front of the answer buffer wait to be written.
+// The lengths in two buffers that are the caller's. How many bytes in front of the text buffer are left; how many bytes were played last; how many bytes in
+// front of the answer buffer wait to be written.
 #[derive(Clone, Copy)]
 pub struct Counts {
     pub left: usize,
