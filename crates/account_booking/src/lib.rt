@@ -1,8 +1,7 @@
 // What is booked on one account: turnovers, and the start value.
 #![tactic(auto, unfolding(rules::specs::Account::with_start, rules::specs::Payment::out_turnover, rules::specs::Payment::in_turnover, account::specs::View::to_account, account::specs::View::to_turnover))]
 
-ghost use Rattle.std.specs.Prelude.{◌≡◌, ◌+◌, ◌≤◌, ◌<◌, ◌^◌, pos, nat_abs, ◌+ℤ◌, ◌-ℤ◌, T};
-ghost use Rattle.amount.specs.Amount.{is_amount};
+ghost use Rattle.std.specs.Prelude.{◌≡◌, ◌+◌, ◌<◌, ◌^◌, pos, ◌+ℤ◌, ◌-ℤ◌};
 ghost use Rattle.rules.specs.Account as Rule;
 ghost use Rattle.rules.specs.Payment as Payment;
 ghost use Rattle.rules.specs.Invariant.{Sized};
@@ -10,6 +9,7 @@ ghost use Rattle.account.specs.View.{to_account, to_turnover};
 ghost use Rattle.account_booking.specs.Side.{side_turnover};
 
 use account::{Account, Turnover};
+use amount::Amount;
 
 // Whose turnover a payment raises.
 #[derive(Clone, Copy)]
@@ -32,21 +32,13 @@ impl Side {
     }
 }
 
-// Whether there is room up to 10^17 is tested before, and not asked here.
+// Whether there is room up to 10^17 is tested before, and not asked here. The turnover is read where it is stored, by its place: the method would look it up twice.
 pub fn raised(mut x: Account, turnover: Turnover, n: u64) -> Account
     requires { Rule.turnover (to_turnover turnover) (to_account x).turnovers + n < 2 ^ 64 }
     ensures { to_account result ≡ Payment.raised (to_turnover turnover) n (to_account x) }
 {
     x.turnovers[turnover.place()] += n;
     x
-}
-
-// An amount, once it is known to be in range, as what is booked.
-pub fn amount_of(a: i64) -> u64
-    requires { T (is_amount a) }
-    ensures { (result ≡ nat_abs a) × (result ≤ 10 ^ 15) }
-{
-    a as u64
 }
 
 pub fn with_start(x: Account, start: i64) -> Account
@@ -56,17 +48,17 @@ pub fn with_start(x: Account, start: i64) -> Account
 }
 
 // A funding.
-pub fn start_up(x: Account, n: u64) -> Account
-    requires { (Sized (to_account x)) × (n ≤ 10 ^ 15) }
+pub fn start_up(x: Account, n: Amount) -> Account
+    requires { Sized (to_account x) }
     ensures { to_account result ≡ Rule.with_start ((to_account x).start +ℤ pos n) (to_account x) }
 {
-    with_start(x, x.start + n as i64)
+    with_start(x, x.start + n.kopiyky as i64)
 }
 
 // A withdrawal. Beside `start_up`, and no function of a signed change: each caller has an amount, which is above 0.
-pub fn start_down(x: Account, n: u64) -> Account
-    requires { (Sized (to_account x)) × (n ≤ 10 ^ 15) }
+pub fn start_down(x: Account, n: Amount) -> Account
+    requires { Sized (to_account x) }
     ensures { to_account result ≡ Rule.with_start ((to_account x).start -ℤ pos n) (to_account x) }
 {
-    with_start(x, x.start - n as i64)
+    with_start(x, x.start - n.kopiyky as i64)
 }

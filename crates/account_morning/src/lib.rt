@@ -7,7 +7,7 @@ ghost use Rattle.rules.specs.Day as Day;
 ghost use Rattle.rules.specs.Invariant.{Sized, limit_ok};
 ghost use Rattle.account.specs.View.{to_account, to_limit};
 
-use account::{Account, Limit};
+use account::{Account, Limit, Turnover};
 use account_booking::with_start;
 use amount::{balance, cut, state};
 
@@ -35,12 +35,13 @@ fn morning(method: u8, less: i64, limit: Limit) -> Limit
     }
 }
 
+#[tactic(auto, using(account::proofs::Laws::turnover_small))]
 fn morning_limits(x: Account) -> Account
     requires { (Sized (to_account x)) × (T (limit_ok (to_account x).ltk)) × (T (limit_ok (to_account x).lpo)) }
     ensures { to_account result ≡ Day.morning_limits (to_account x) }
 {
     let ltk = morning(x.ltk_method, balance(x.turnovers), x.ltk);
-    let lpo = morning(x.lpo_method, x.turnovers[0] as i64, x.lpo);
+    let lpo = morning(x.lpo_method, x.turnover(Turnover::Icdt) as i64, x.lpo);
     x.with_limits(ltk, lpo)
 }
 

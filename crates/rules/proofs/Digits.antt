@@ -21,11 +21,14 @@ unfolding every
 every_append p [] b h k = k
 every_append p (x ∷ a) b h k = let q = both (p x) (every p a) h in ap₂ ◌&&◌ q.0 (every_append p a b q.1 k)
 
+pub between : (a n b : ℕ) → (leb a n && leb n b) ≡ true → (a ≤ n) × (n ≤ b)
+between a n b h = let q = both (leb a n) (leb n b) h in (leb-true a n q.0, leb-true n b q.1)
+
 -- ---- one digit
 
 pub digit_range : (d : ℕ) → is_digit d ≡ true → (48 ≤ d) × (d ≤ 57)
 unfolding is_digit
-digit_range d h = let q = both (leb 48 d) (leb d 57) h in (leb-true 48 d q.0, leb-true d 57 q.1)
+digit_range d h = between 48 d 57 h
 
 pub range_digit : (d : ℕ) → 48 ≤ d → d ≤ 57 → is_digit d ≡ true
 unfolding is_digit

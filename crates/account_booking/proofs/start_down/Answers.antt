@@ -6,9 +6,10 @@ use Rattle.account_booking.proofs.start_down.Goals as goal
 
 pub overflow_sub-x : goal.overflow_sub-x
 overflow_sub-x c =
-    omega (arith, diff_fits, start_size c.args.x c.requires.0, count_size c.args.n (omega arith))
+    omega (arith, diff_fits, c.n.invariant, start_size c.args.x c.requires, count_size c.n.inside.kopiyky (omega (arith, c.n.invariant)))
 
 pub returns : goal.returns
 unfolding to_account
 returns c =
-    rw (minus_reads c.args.x.start (pos c.args.n) (omega (arith, c.requires.0.start_small))) at c.with_start.ensures
+    rw (← c.n.view_is)
+    (rw (minus_reads c.args.x.start (pos c.n.inside.kopiyky) (omega (arith, c.n.invariant, c.requires.start_small))) at c.with_start.ensures)

@@ -7,9 +7,10 @@ use Rattle.account_booking.proofs.start_up.Goals as goal
 
 pub overflow_add-x : goal.overflow_add-x
 overflow_add-x c =
-    omega (arith, sum_fits, start_size c.args.x c.requires.0, count_size c.args.n (omega arith))
+    omega (arith, sum_fits, c.n.invariant, start_size c.args.x c.requires, count_size c.n.inside.kopiyky (omega (arith, c.n.invariant)))
 
 pub returns : goal.returns
 unfolding to_account
 returns c =
-    rw (plus_reads c.args.x.start (pos c.args.n) (omega (arith, c.requires.0.start_small))) at c.with_start.ensures
+    rw (← c.n.view_is)
+    (rw (plus_reads c.args.x.start (pos c.n.inside.kopiyky) (omega (arith, c.n.invariant, c.requires.start_small))) at c.with_start.ensures)

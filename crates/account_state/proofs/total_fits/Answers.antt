@@ -6,7 +6,8 @@ use Rattle.account.proofs.Laws.{plus_reads, count_size}
 use Rattle.account_state.proofs.total_fits.Goals as goal
 
 pub overflow_add-result : goal.overflow_add-result
-overflow_add-result c = omega (arith, sum_fits, told c.ranges.sum, count_size c.args.n (omega arith))
+overflow_add-result c =
+    omega (arith, sum_fits, c.n.invariant, told c.ranges.sum, count_size c.n.inside.kopiyky (omega (arith, c.n.invariant)))
 
 pub returns : goal.returns
-returns c = rw (plus_reads c.args.sum (pos c.args.n) (omega arith))
+returns c = rw (plus_reads c.args.sum (pos c.n.inside.kopiyky) (omega (arith, c.n.invariant)), ← c.n.view_is)
