@@ -18,6 +18,7 @@ use Rattle.frame.specs.Field.{size, width, may, plain_value, value_of, are_field
 use Rattle.frame.specs.Frame.{K0b, kind_byte, fields_of, is_frame, command_of, commands_of}
 use Rattle.frame.proofs.Texts.{conditions_append, conditions_most}
 use Rattle.command.specs.declared.Header.{Header}
+use Rattle.command.specs.declared.Conditions.{Conditions}
 use Rattle.command.specs.declared.Command.TheVariants.{Search}
 use Rattle.command.specs.View.{to_command}
 use Rattle.command.proofs.ByKind.{kind_fields, kind_command}
@@ -67,10 +68,10 @@ module _ (b : List ℕ) (good : is_frame b ≡ true) (e : get_or b 0 0 ≡ 11) w
       let p = rows_whole b w h in
       ap₂ conditions_in (ap (λ (l : List ℕ). get_or l 0 0) p ∙ get_or-drop 47 b 0 0) (ap (drop 1) p ∙ drop-drop 1 47 b)
 
-  pub search_held : (h : Header) → HeaderAt b h → (n : ℕ) (texts : List ℕ) → n ≡ get_or b 47 0 → part 0 (length b - 48) texts ≡ drop 48 b
-      → to_command (Search h n texts) ∷ [] ≡ commands_of b
+  pub search_held : (h : Header) → HeaderAt b h → (cs : Conditions) → cs.count ≡ get_or b 47 0 → part 0 (length b - 48) cs.texts ≡ drop 48 b
+      → to_command (Search h cs) ∷ [] ≡ commands_of b
   unfolding to_command kind_byte fields_of command_of all_values value_of plain_value width size
-  search_held h head n texts c f =
+  search_held h head cs c f =
       ap (λ (k : Rule.Command). k ∷ [])
-      (ap₂ Rule.Search head (ap (λ (k : ℕ). conditions_in k texts) c ∙ kept texts f ∙ sym (held (conditions_width (get_or b 47 0) (drop 48 b)) search_at.whole)))
+      (ap₂ Rule.Search head (ap (λ (k : ℕ). conditions_in k cs.texts) c ∙ kept cs.texts f ∙ sym (held (conditions_width (get_or b 47 0) (drop 48 b)) search_at.whole)))
       ∙ sym (kind_command K0b b good e)

@@ -35,12 +35,12 @@ to_command (Branch c o l p) = Rule.Branch c o l p
 to_command (Funding c a) = Rule.Funding c a
 to_command (Withdrawal c a) = Rule.Withdrawal c a
 to_command (BankLimits c l p) = Rule.BankLimits c l p
-to_command (Payment w s r a) = Rule.Payment w s r a
-to_command (Change h n items) = Rule.Change (to_header h) (items_from 0 n items)
+to_command (Payment p) = Rule.Payment p.way p.sender p.receiver p.amount
+to_command (Change h items) = Rule.Change (to_header h) (items_from 0 items.count items.rows)
 to_command (Deletion h id t) = Rule.Deletion (to_header h) id t
-to_command (Query h n ids) = Rule.Query (to_header h) (ids_from 0 n ids)
+to_command (Query h ids) = Rule.Query (to_header h) (ids_from 0 ids.count ids.rows)
 to_command (Opening d) = Rule.Opening d
-to_command (Search h n texts) = Rule.Search (to_header h) (conditions_in n texts)
+to_command (Search h conditions) = Rule.Search (to_header h) (conditions_in conditions.count conditions.texts)
 to_command (Letters c l) = Rule.Letters c l
 to_command (Mark c) = Rule.Mark c
 

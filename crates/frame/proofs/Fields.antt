@@ -18,7 +18,7 @@ use Rattle.frame_fields.specs.Place.{six_digits, word_at}
 use Rattle.frame_fields.specs.Conditions.{conditions_width, are_conditions}
 use Rattle.frame.specs.Field.{Field, Code, UpTo, Second, Free, Items, Conditions, Never, row_size, width, may, Value, row_fits, fits, rows_bytes, conditions_bytes, bytes_of, value_of, are_fields, Values, all_fit, all_bytes, all_values}
 use Rattle.frame.proofs.Texts.{conditions_length, conditions_bytes_lem, conditions_may, conditions_back, conditions_count, conditions_fits, conditions_there, conditions_same}
-use Rattle.rules.proofs.Digits.{length_digits, digits_bytes, digits_digits, decimal_digits, digits_decimal, decimal_below}
+use Rattle.rules.proofs.Digits.{between, length_digits, digits_bytes, digits_digits, decimal_digits, digits_decimal, decimal_below}
 use Rattle.frame.proofs.Digits.{six_digits_lem}
 use Rattle.frame.proofs.Rows.{is_bytes_lem, bytes_are, is_bytes_drop, plain_bytes_lem, plain_back, plain_fits_lem, plain_there, rows_bytes_lem, rows_back, rows_length, rows_fits, rows_there}
 
@@ -41,11 +41,11 @@ word_number bs e = sym (ap number (whole_bytes 3 bs e) ∙ omega arith)
 
 pub few_range : (n : ℕ) → is_few n ≡ true → (1 ≤ n) × (n ≤ 8)
 unfolding is_few
-few_range n h = let q = both (leb 1 n) (leb n 8) h in (leb-true 1 n q.0, leb-true n 8 q.1)
+few_range n h = between 1 n 8 h
 
 count_range : (n : ℕ) → is_count n ≡ true → (1 ≤ n) × (n ≤ 16)
 unfolding is_count
-count_range n h = let q = both (leb 1 n) (leb n 16) h in (leb-true 1 n q.0, leb-true n 16 q.1)
+count_range n h = between 1 n 16 h
 
 pub field_bytes : (f : Field) (v : Value f) → narrow f ≡ true → fits f v ≡ true → is_bytes (width f (bytes_of f v) 0) (bytes_of f v) ≡ true
 unfolding narrow fits width bytes_of are_bytes

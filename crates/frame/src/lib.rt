@@ -5,7 +5,7 @@ ghost use Rattle.std.specs.Prelude.{◌≡◌, cond, length, Some, None};
 ghost use Rattle.frame.specs.Frame.{is_frame};
 
 use frame_fields::{at, conditions_at, is_code_at, rows_at, second_at};
-use rules::{is_letters, is_method};
+use rules::{is_letters, is_method, is_way};
 
 // Byte 0 is the kind. It chooses the fields behind it and, with them, the length. The cases are decimal: kind 13 is 19.
 // The match on the byte, by cases and ranges, is a form that the project's scope names.
@@ -22,7 +22,7 @@ pub fn well_formed(b: &[u8]) -> bool
         }
         3..=4 => is_code_at(b, 1) & (n == 15),
         5 => is_code_at(b, 1) & (n == 23),
-        6 => (at(b, 1) <= 1) & (is_code_at(b, 2) & (is_code_at(b, 8) & (n == 22))),
+        6 => is_way(at(b, 1)) & (is_code_at(b, 2) & (is_code_at(b, 8) & (n == 22))),
         7 => is_code_at(b, 1) & (second_at(b, 43) & rows_at(b, 19)),
         8 => is_code_at(b, 1) & (second_at(b, 43) & (n == 58)),
         9 => is_code_at(b, 1) & (second_at(b, 43) & rows_at(b, 10)),

@@ -11,15 +11,16 @@ use lib.Dec.{eqb}
 use borrow.Author.Tests.{eq-eqb, ne_eqb}
 use Rattle.octets.specs.Octets.{write}
 use Rattle.octets.proofs.Places.{write_then}
+use Rattle.octet_writer.specs.Written.{Written}
 use Rattle.frame_echo.specs.Printed.{is_line, echoed, grown, begun, printed, last, EchoIs}
 
 -- ---- one byte
 
-pub step_end : (line out out' : List ℕ) (b at end : ℕ) → b ≡ 10 → out' ≡ write out at (echoed line) → end ≡ at + length (echoed line) → EchoIs line (b ∷ []) at out out' [] end
-step_end line out out' b at end e w p =
+pub step_end : {line line' out out' : List ℕ} {b at end : ℕ} → b ≡ 10 → Written out at (echoed line) out' end → line' ≡ [] → EchoIs line (b ∷ []) at out out' line' end
+step_end {line = line} {b = b} e w n =
     let g : begun line (b ∷ []) ≡ [] = unfold begun in ap (λ (t : Bool). cond t [] (grown line b)) (eq-eqb b 10 e) in
     let f : printed line (b ∷ []) ≡ echoed line = unfold printed in (append-nil _ ∙ ap (λ (t : Bool). cond t (echoed line) []) (eq-eqb b 10 e)) in
-    record { begun_is = sym g; end_is = rw f p; out_is = rw f w }
+    record { begun_is = n ∙ sym g; end_is = rw f w.behind; out_is = rw f w.bytes }
 
 -- a byte that is no line end prints nothing
 grow : (line line' out : List ℕ) (b at : ℕ) → (b ≡ 10 → ⊥) → line' ≡ grown line b → EchoIs line (b ∷ []) at out out line' at
@@ -29,9 +30,9 @@ grow line line' out b at n l =
     let f : printed line (b ∷ []) ≡ [] = unfold printed in (append-nil _ ∙ ap (λ (t : Bool). cond t (echoed line) []) (ne_eqb b 10 n)) in
     record { begun_is = l ∙ sym g; end_is = rw f (omega arith); out_is = rw f refl }
 
-pub step_more : (line out : List ℕ) (b at : ℕ) → (b ≡ 10 → ⊥) → length line < 705 → EchoIs line (b ∷ []) at out out (line ++ (b ∷ [])) at
+pub step_more : {line line' out : List ℕ} {b at : ℕ} → (b ≡ 10 → ⊥) → length line < 705 → line' ≡ line ++ (b ∷ []) → EchoIs line (b ∷ []) at out out line' at
 unfolding grown
-step_more line out b at n s = grow line _ out b at n (sym (take_all 705 (line ++ (b ∷ [])) (omega (arith, length-append line (b ∷ [])))))
+step_more {line = line} {b = b} n s e = grow line _ _ b _ n (e ∙ sym (take_all 705 (line ++ (b ∷ [])) (omega (arith, length-append line (b ∷ [])))))
 
 pub step_full : (line out : List ℕ) (b at : ℕ) → (b ≡ 10 → ⊥) → length line ≡ 705 → EchoIs line (b ∷ []) at out out line at
 unfolding grown

@@ -1,17 +1,15 @@
 -- Laws of lines that are echoed. Assumes nothing.
 use mathlib.Core.Path.{◌≡◌, refl, sym, ap, ◌∙◌}
 use mathlib.Core.Bool.{Bool, true, false, cond, ◌&&◌}
-use mathlib.Core.List.{List, [], ◌∷◌}
-use Prim.Native.Nat.{ℕ, ◌+◌, ◌*◌, ◌%◌, ◌≤◌}
+use mathlib.Core.List.{List, [], ◌∷◌, ◌++◌}
+use Prim.Native.Nat.{ℕ, ◌*◌, ◌%◌, ◌≤◌}
 use native.Mathlib.Omega.{arith}
-use lib.ListN.{length, take, drop, set, length-append}
+use lib.ListN.{length, take, drop}
 use lib.Seq.{take_at}
 use lib.Dec.{eqb, leb}
 use borrow.Author.Tests.{eqb-true, le-leb}
 use Rattle.std.specs.Prelude.{Option}
-use Rattle.octets.specs.Octets.{write}
 use Rattle.octets.proofs.Numbers.{both}
-use Rattle.octets.proofs.Places.{write_then}
 use Rattle.frame.specs.Hex.{all_hex, unhex, hex}
 use Rattle.frame.specs.Field.{are_fields, may}
 use Rattle.frame.specs.Frame.{layout, is_frame, commands_of, line_frame, given, read_frame, command_frame, write_frame}
@@ -20,7 +18,6 @@ use Rattle.frame.proofs.Layouts.{frame_length}
 use Rattle.frame.proofs.Lines.{unhex_bytes, hex_unhex}
 use Rattle.frame.proofs.OneToOneProof.{carries, carried}
 use Rattle.frame_reader.proofs.Reader.{unhex_length}
-use Rattle.hex_writer.proofs.Laws.{hex_length}
 use Rattle.command.specs.declared.Command.{Command}
 use Rattle.command.specs.View.{commands}
 use Rattle.command.proofs.ByKind.{frame_some}
@@ -81,12 +78,6 @@ rewritten line o room e = ap (given room) (ap command_frame e ∙ frame_again li
 -- ---- echoed
 
 -- the digits and the line end
-pub echo_done : (line out mid front : List ℕ) (at n : ℕ) → front ≡ line_frame line → n ≡ length (line_frame line) → mid ≡ write out at (hex front)
-    → (set mid (at + 2 * n) 10 ≡ write out at (echoed line)) × (at + 2 * n + 1 ≡ at + length (echoed line))
-unfolding echoed write
-echo_done line out mid front at n f m w =
-    let d : hex front ≡ cond (is_line line) line [] = ap hex f ∙ frame_digits line in
-    let l : length (cond (is_line line) line []) ≡ 2 * n = ap length (sym (frame_digits line)) ∙ hex_length (line_frame line) ∙ ap (λ k. 2 * k) (sym m) in (
-      rw (w, d) (write_then out at (cond (is_line line) line []) (10 ∷ []) (at + 2 * n) (omega (arith, l))),
-      omega (arith, l, length-append (cond (is_line line) line []) (10 ∷ [])),
-    )
+pub echo_done : (line front : List ℕ) → front ≡ line_frame line → hex front ++ (10 ∷ []) ≡ echoed line
+unfolding echoed
+echo_done line front f = ap (λ l. l ++ (10 ∷ [])) (ap hex f ∙ frame_digits line)

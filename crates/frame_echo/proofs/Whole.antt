@@ -5,7 +5,8 @@ use Prim.Native.Nat.{ℕ, ◌+◌, ◌≤◌}
 use native.Mathlib.Omega.{arith}
 use lib.ListN.{length, take, drop}
 use lib.Seq.{take_at}
-use Rattle.std.specs.Prelude.{Option, Some, None}
+use Rattle.std.specs.Prelude.{Option, Some, None, Result, Ok, Err, is_ok, OnOk}
+use Rattle.std.proofs.lemmas.Bool.{false≢true}
 use Rattle.std.specs.Io.KnownBytes.{Consumes, Appends, IsAtEnd}
 use Rattle.octets.specs.Octets.{write}
 use Rattle.octets.proofs.Places.{take_none, write_is}
@@ -34,6 +35,14 @@ consumes_none (Some a) = refl
 appends_none : (a : Option (List ℕ)) → Appends a a []
 appends_none None = tt
 appends_none (Some a) = sym (append-nil a)
+
+-- ---- a result whose error was mapped
+
+-- it is `Ok` where the result was
+pub on_ok_mapped : {T E D P Q : Type 0} (r : Result T E) (r' : Result T D) → is_ok r' ≡ is_ok r → (P → Q) → OnOk r P → OnOk r' Q
+on_ok_mapped (Ok x) (Ok y) e f h = f h
+on_ok_mapped (Err x) (Ok y) e f h = absurd (false≢true (sym e))
+on_ok_mapped r (Err y) e f h = tt
 
 -- ---- what was read so far
 

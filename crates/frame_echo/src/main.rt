@@ -4,6 +4,7 @@
 
 ghost use Rattle.std.specs.Prelude.{◌≡◌, [], ◌∷◌, ◌+◌, ◌≤◌, length, OnOk};
 ghost use Rattle.octets.specs.Octets.{write};
+ghost use Rattle.octet_writer.specs.Written.{HasRoom, IsSameBuffer, Wrote};
 ghost use Rattle.frame.specs.Frame.{read_frame};
 ghost use Rattle.frame.specs.Filled.{Filled};
 ghost use Rattle.frame_echo.specs.Printed.{echoed, last, EchoIs};
@@ -14,6 +15,7 @@ use command::parse;
 use frame_reader::nomiluvar_read_frame;
 use frame_writer::write_frame;
 use hex_writer::put_hex;
+use octet_writer::Writer;
 use std::io::{Read, Write};
 use std::process::ExitCode;
 
@@ -26,46 +28,44 @@ fn rewrite(line: &[u8], frame: &mut [u8]) -> usize
     write_frame(parse(&read[..n]), frame)
 }
 
-// Echoes a line from the place `at` on, and gives the place behind its end.
-fn echo(line: &[u8], out: &mut [u8], at: usize) -> usize
-    requires { at + (length line.now + 1) ≤ length out.old }
-    ensures { (out.new ≡ write out.old at (echoed line.now)) × (result ≡ at + length (echoed line.now)) }
+// Echoes a line.
+fn echo(w: &mut Writer, line: &[u8])
+    requires { HasRoom (length line.now + 1) w.old }
+    ensures buffer { IsSameBuffer w.old w.new }
+    ensures wrote { Wrote (echoed line.now) w.old w.new }
 {
     let mut frame = [0u8; 352];
     let n = rewrite(line, &mut frame);
-    put_hex(out, at, &frame[..n]);
-    let end = at + 2 * n;
-    out[end] = b'\n';
-    end + 1
+    put_hex(w, &frame[..n]);
+    w.put(b'\n');
 }
 
-// Takes one byte, and gives the place behind what is printed: a line end ends the begun line, any other byte belongs to it. 705 bytes of a line are kept:
-// no frame has more than 704 digits.
-fn step(b: u8, line: &mut ArrayVec<u8, 705>, out: &mut [u8], at: usize) -> usize
-    requires { at + (length line.old.items + 1) ≤ length out.old }
-    ensures { EchoIs line.old.items (b ∷ []) at out.old out.new line.new.items result }
+// Takes one byte: a line end ends the begun line, any other byte belongs to it. 705 bytes of a line are kept: no frame has more than 704 digits.
+fn step(b: u8, line: &mut ArrayVec<u8, 705>, w: &mut Writer)
+    requires { HasRoom (length line.old.items + 1) w.old }
+    ensures buffer { IsSameBuffer w.old w.new }
+    ensures echo { EchoIs line.old.items (b ∷ []) w.old.at w.old.out.now w.new.out.now line.new.items w.new.at }
 {
     if b == b'\n' {
-        let end = echo(line.as_slice(), out, at);
+        echo(w, line.as_slice());
         line.clear();
-        return end;
+        return;
     }
     if !line.is_full() {
         line.push(b);
     }
-    at
 }
 
-// Takes all bytes of a text.
+// Takes all bytes of a text, and gives how many bytes came of it.
 fn steps(text: &[u8], line: &mut ArrayVec<u8, 705>, out: &mut [u8]) -> usize
     requires { length line.old.items + length text.now ≤ length out.old }
     ensures { EchoIs line.old.items text.now 0 out.old out.new line.new.items result }
 {
-    let mut end = 0;
+    let mut w = Writer::new(out);
     for b in text {
-        end = step(*b, line, out, end);
+        step(*b, line, &mut w);
     }
-    end
+    w.len()
 }
 
 // Echoes the last line, which has no end, where it has a byte.
@@ -76,7 +76,9 @@ fn finish(line: &[u8], out: &mut [u8]) -> usize
     if line.is_empty() {
         return 0;
     }
-    echo(line, out, 0)
+    let mut w = Writer::new(out);
+    echo(&mut w, line);
+    w.len()
 }
 
 // Why not all of an input was echoed.
@@ -96,20 +98,17 @@ fn echo_all<R: Read, W: Write>(input: &mut R, output: &mut W) -> Result<(), Fail
     let mut line: ArrayVec<u8, 705> = ArrayVec::new();
     let mut out = [0u8; 65536];
     for _ in 0..u64::MAX {
-        let Ok(n) = input.read(&mut text) else {
-            return Err(Failure::Unread);
-        };
+        let n = input.read(&mut text).map_err(|_| Failure::Unread)?;
         if n == 0 {
             let end = finish(line.as_slice(), &mut out);
-            let Ok(()) = output.write_all(&out[..end]) else {
-                return Err(Failure::Unwritten);
-            };
-            return Ok(());
+            return output
+                .write_all(&out[..end])
+                .map_err(|_| Failure::Unwritten);
         }
         let end = steps(&text[..n], &mut line, &mut out);
-        let Ok(()) = output.write_all(&out[..end]) else {
-            return Err(Failure::Unwritten);
-        };
+        output
+            .write_all(&out[..end])
+            .map_err(|_| Failure::Unwritten)?;
     }
     Err(Failure::Unread)
 }

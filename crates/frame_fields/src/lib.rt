@@ -8,7 +8,7 @@ ghost use Rattle.frame_fields.specs.Conditions.{conditions_width, are_conditions
 ghost use Rattle.frame_fields.specs.Place.{six_digits, word_at};
 
 use digits::is_digit;
-use rules::{is_count, is_form};
+use rules::{is_count, is_form, is_second};
 
 // The byte at i, and 0 past the end.
 pub fn at(b: &[u8], i: usize) -> u8
@@ -17,7 +17,7 @@ pub fn at(b: &[u8], i: usize) -> u8
     b.get(i).copied().unwrap_or(0)
 }
 
-// Six digits from i on.
+// Six digits from i on. Here and below i < 400 is asked so that i + 6 does not pass the largest usize: each place that is asked for is a small constant.
 #[tactic(auto, unfolding(crate::specs::Place::six_digits))]
 pub fn is_code_at(b: &[u8], i: usize) -> bool
     requires { i < 400 }
@@ -40,7 +40,7 @@ pub fn second_at(b: &[u8], i: usize) -> bool
     requires { i < 400 }
     ensures { result ≡ leb (word_at b.now i) 86399 }
 {
-    word_at(b, i) <= 86399
+    is_second(word_at(b, i))
 }
 
 // Behind the header a count, and as many rows of `size` bytes, up to the end.

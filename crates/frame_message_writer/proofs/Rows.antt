@@ -1,37 +1,70 @@
--- One row more behind the rows of a message. Assumes nothing.
-use mathlib.Core.Path.{◌≡◌, sym, ap, ◌∙◌}
-use mathlib.Core.List.{List, [], ◌∷◌, ◌++◌, map, append_assoc, append-nil, map-append}
-use Prim.Native.Nat.{ℕ, ◌+◌, ◌<◌}
-use lib.ListN.{length, get_or, take}
+-- The rows of a message, one behind the other, and as a frame has them. Assumes nothing.
+use mathlib.Core.Path.{◌≡◌, refl, sym, ap, ap₂, ◌∙◌}
+use mathlib.Core.Bool.{Bool, true, false, cond}
+use mathlib.Core.List.{List, [], ◌∷◌, ◌++◌, map, append-nil}
+use Prim.Native.Nat.{ℕ, ◌+◌, ◌<◌, ◌≤◌}
+use native.Mathlib.Omega.{arith}
+use lib.ListN.{length, get_or, take, length-map}
+use Rattle.std.specs.Prelude.{flat_map}
 use Rattle.std.proofs.lemmas.List.{take_more}
-use Rattle.frame.specs.Field.{Plain, Row, row_bytes, rows_bytes}
-use Rattle.frame.specs.Frame.{item_row, id_row, item_values, id_values}
+use Rattle.std.proofs.lemmas.List.Concat.{flat_map-append}
+use Rattle.octets.specs.Octets.{big_endian}
+use Rattle.rules.specs.Command.{Command, Item, Change, Query, well_formed}
+use Rattle.rules.specs.Message.{digits}
+use Rattle.frame.specs.Field.{plain_bytes, row_bytes, rows_bytes, bytes_of, all_bytes}
+use Rattle.frame.specs.Frame.{item_row, id_row, item_values, id_values, kind_byte, fields_of, kind_of, values_of, frame_of, command_frame}
+use Rattle.command.specs.declared.Header.{Header}
 use Rattle.command.specs.declared.ChangeItem.{ChangeItem}
-use Rattle.command.specs.View.{to_item}
+use Rattle.command.specs.Item.{item_bytes}
+use Rattle.command.specs.View.{to_header, to_item, items_from, ids_from}
+use Rattle.command.proofs.Forms.{items_length, items_taken, ids_length, ids_taken}
 use Rattle.octet_writer.specs.Written.{Written}
 use Rattle.octet_writer.proofs.Laws.{written_same, written_then}
 
-module _ {X : Type 0} (ps : List Plain) (f : X → Row ps) where
-  rows_behind : (xs : List X) (x : X) → rows_bytes ps (map f (xs ++ (x ∷ []))) ≡ rows_bytes ps (map f xs) ++ row_bytes ps (f x)
-  unfolding rows_bytes
-  rows_behind [] x = append-nil (row_bytes ps (f x))
-  rows_behind (y ∷ xs) x = ap (λ l. row_bytes ps (f y) ++ l) (rows_behind xs x) ∙ sym (append_assoc (row_bytes ps (f y)) (rows_bytes ps (map f xs)) (row_bytes ps (f x)))
+-- one row more
+pub row_written : {X : Type 0} {l m r : List ℕ} {p at end : ℕ} (f : X → List ℕ) (xs : List X) (i : ℕ) (x : X) → i < length xs → x ≡ get_or xs i x
+    → Written l p (flat_map f (take i xs)) m at → Written m at (f x) r end → Written l p (flat_map f (take (i + 1) xs)) r end
+row_written f xs i x h e w v =
+    let t = ap (flat_map f) (take_more xs i x h) ∙ flat_map-append f (take i xs) (get_or xs i x ∷ []) ∙ ap (λ (b : List ℕ). flat_map f (take i xs) ++ b) (append-nil (f (get_or xs i x))) in
+    written_same (sym t) (written_then w (written_same (ap f e) v))
 
--- so many items of a slice
-abbrev pub item_bytes : ℕ → List ChangeItem → List ℕ
-item_bytes i items = rows_bytes item_row (map item_values (map to_item (take i items)))
+-- ---- as a frame has them
 
-pub item_written : {l m r : List ℕ} {p at end : ℕ} (items : List ChangeItem) (i : ℕ) (d : ChangeItem) → i < length items → Written l p (item_bytes i items) m at
-    → Written m at (row_bytes item_row (item_values (to_item (get_or items i d)))) r end → Written l p (item_bytes (i + 1) items) r end
-item_written items i d h w x =
-    let e = ap (map to_item) (take_more items i d h) ∙ map-append to_item (take i items) (get_or items i d ∷ []) in
-    written_same (sym (ap (λ is. rows_bytes item_row (map item_values is)) e ∙ rows_behind item_row item_values (map to_item (take i items)) (to_item (get_or items i d)))) (written_then w x)
+pub items_rows : (items : List ChangeItem) → flat_map item_bytes items ≡ rows_bytes item_row (map item_values (map to_item items))
+unfolding item_bytes rows_bytes
+items_rows [] = refl
+items_rows (i ∷ items) = ap (λ b. row_bytes item_row (item_values (to_item i)) ++ b) (items_rows items)
 
--- so many account ids of a slice
-abbrev pub id_bytes : ℕ → List (List ℕ) → List ℕ
-id_bytes i ids = rows_bytes id_row (map id_values (take i ids))
+pub ids_rows : (ids : List (List ℕ)) → flat_map (λ x. x) ids ≡ rows_bytes id_row (map id_values ids)
+unfolding rows_bytes row_bytes plain_bytes id_values
+ids_rows [] = refl
+ids_rows (i ∷ ids) = ap₂ ◌++◌ (sym (append-nil i)) (ids_rows ids)
 
-pub id_written : {l m r : List ℕ} {p at end : ℕ} (ids : List (List ℕ)) (i : ℕ) (d : List ℕ) → i < length ids → Written l p (id_bytes i ids) m at
-    → Written m at (row_bytes id_row (id_values (get_or ids i d))) r end → Written l p (id_bytes (i + 1) ids) r end
-id_written ids i d h w x =
-    written_same (sym (ap (λ is. rows_bytes id_row (map id_values is)) (take_more ids i d h) ∙ rows_behind id_row id_values (take i ids) (get_or ids i d))) (written_then w x)
+-- ---- the frame of a message with rows, or nothing of one that is out of range
+
+pub row_frame : (c : Command) (t : Bool) (bs : List ℕ) → well_formed c ≡ t → (t ≡ true → bs ≡ frame_of c) → cond t bs [] ≡ command_frame (c ∷ [])
+unfolding command_frame
+row_frame c t bs e f = go t f ∙ ap (λ (b : Bool). cond b (frame_of c) []) (sym e)
+  where
+    go : (t : Bool) → (t ≡ true → bs ≡ frame_of c) → cond t bs [] ≡ cond t (frame_of c) []
+    go true f = f refl
+    go false f = refl
+
+module _ (h : Header) (n : ℕ) (m : n ≤ 16) where
+  pub change_frame : (items : List ChangeItem) → length items ≡ 16
+      → 7 ∷ (digits 6 h.sender ++ (h.id ++ (big_endian 4 h.day ++ (big_endian 4 h.second ++ (n ∷ flat_map item_bytes (take n items)))))) ≡ frame_of (Change (to_header h) (items_from 0 n items))
+  unfolding to_header frame_of kind_of kind_byte fields_of values_of all_bytes bytes_of plain_bytes
+  change_frame items l =
+      let is = items_from 0 n items in
+      let k : n ≡ length (map item_values is) = sym (length-map is item_values ∙ items_length items 0 n) in
+      let r = items_rows (take n items) ∙ ap (λ (i : List Item). rows_bytes item_row (map item_values i)) (sym (items_taken n items (omega arith))) in
+      ap (λ (t : List ℕ). 7 ∷ (digits 6 h.sender ++ (h.id ++ (big_endian 4 h.day ++ (big_endian 4 h.second ++ t))))) (ap₂ ◌∷◌ k r ∙ sym (append-nil _))
+
+  pub query_frame : (ids : List (List ℕ)) → length ids ≡ 16
+      → 9 ∷ (digits 6 h.sender ++ (h.id ++ (big_endian 4 h.day ++ (big_endian 4 h.second ++ (n ∷ flat_map (λ x. x) (take n ids)))))) ≡ frame_of (Query (to_header h) (ids_from 0 n ids))
+  unfolding to_header frame_of kind_of kind_byte fields_of values_of all_bytes bytes_of plain_bytes
+  query_frame ids l =
+      let is = ids_from 0 n ids in
+      let k : n ≡ length (map id_values is) = sym (length-map is id_values ∙ ids_length ids 0 n) in
+      let r = ids_rows (take n ids) ∙ ap (λ (i : List (List ℕ)). rows_bytes id_row (map id_values i)) (sym (ids_taken n ids (omega arith))) in
+      ap (λ (t : List ℕ). 9 ∷ (digits 6 h.sender ++ (h.id ++ (big_endian 4 h.day ++ (big_endian 4 h.second ++ t))))) (ap₂ ◌∷◌ k r ∙ sym (append-nil _))

@@ -1,23 +1,22 @@
 -- Laws behind the frame reader: digits and their bytes, and when a line is a frame. Assumes nothing.
 use mathlib.Core.Path.{◌≡◌, refl, sym, ap, ◌∙◌}
-use mathlib.Core.List.{List, [], ◌∷◌, ◌++◌}
-use mathlib.Core.Bool.{Bool, true, false, cond, ◌&&◌, ◌||◌, and-true}
-use Prim.Native.Nat.{ℕ, zero, suc, ◌+◌, ◌-◌, ◌*◌, ◌/◌, ◌%◌, ◌<◌, ◌≤◌}
+use mathlib.Core.List.{List, [], ◌∷◌, ◌++◌, append-nil}
+use mathlib.Core.Bool.{Bool, true, false, cond, ◌&&◌, and-true}
+use Prim.Native.Nat.{ℕ, zero, suc, ◌+◌, ◌*◌, ◌/◌, ◌%◌, ◌<◌, ◌≤◌}
 use native.Mathlib.Omega.{arith}
 use native.Mathlib.Nat.{zero-add}
 use native.Mathlib.Numerals.{add-one}
-use borrow.Author.Tests.{le-leb, lt-leb, leb-true, leb-false, eq-eqb}
+use borrow.Author.Tests.{le-leb, lt-leb, leb-false, eq-eqb}
 use lib.ListN.{length, get_or, take, drop, set, drop_of_length-le}
 use lib.Seq.{drop-cons, paste-suc, take_all, take_at}
 use lib.Dec.{leb, eqb}
 use Rattle.std.specs.Prelude.{Option, Some, None, MatchOption}
 use Rattle.octets.proofs.Numbers.{both}
-use Rattle.rules.specs.Message.{is_digit}
-use Rattle.frame.specs.Hex.{nibble, is_letter, is_hex, all_hex, unhex}
+use Rattle.frame.specs.Hex.{nibble, is_hex, all_hex, unhex}
 use Rattle.frame.specs.Frame.{is_frame, line_frame, given, read_frame}
 use Rattle.frame.proofs.Layouts.{frame_length}
 use Rattle.frame.specs.Filled.{Filled}
-use Rattle.frame_reader.specs.Unpacked.{DigitValues, is_packed, unpacked, FrameAt}
+use Rattle.frame_reader.specs.Unpacked.{is_packed, unpacked, FrameAt}
 
 -- ---- tests
 
@@ -57,37 +56,6 @@ hex_at [] i e h = absurd (omega arith)
 hex_at (d ∷ t) zero e h = (both (is_hex d) _ e).0
 hex_at (d ∷ t) (suc i) e h = hex_at t i (both (is_hex d) _ e).1 (omega arith)
 
-pub hex_below : (d : ℕ) → is_hex d ≡ true → d < 128
-unfolding is_hex is_digit is_letter
-hex_below d e = go (is_digit d) refl e
-  where
-    go : (t : Bool) → is_digit d ≡ t → (t || is_letter d) ≡ true → d < 128
-    go true f g = omega (arith, leb-true d 57 (both (leb 48 d) _ f).1)
-    go false f g = omega (arith, leb-true d 102 (both (leb 97 d) _ g).1)
-
--- a digit's value by its low bits
-pub nibble_bits : (d : ℕ) → is_hex d ≡ true → (d % 16 + d / 64 * 9 ≡ nibble d) × (d % 16 + d / 64 * 9 < 16)
-unfolding nibble is_hex is_digit is_letter
-nibble_bits d e = go (is_digit d) refl e
-  where
-    go : (t : Bool) → is_digit d ≡ t → (t || is_letter d) ≡ true → (d % 16 + d / 64 * 9 ≡ cond (is_digit d) (d - 48) (d - 87)) × (d % 16 + d / 64 * 9 < 16)
-    go true f g =
-        let h = both (leb 48 d) _ f in
-        let lo = leb-true 48 d h.0 in
-        let hi = leb-true d 57 h.1 in
-        let v : d % 16 + d / 64 * 9 ≡ d - 48 = omega arith in
-        (rw f v, omega arith)
-    go false f g =
-        let h = both (leb 97 d) _ g in
-        let lo = leb-true 97 d h.0 in
-        let hi = leb-true d 102 h.1 in
-        let v : d % 16 + d / 64 * 9 ≡ d - 87 = omega arith in
-        (rw f v, omega arith)
-
--- at a digit's place its value
-pub digit_at : (values : List ℕ) (d : ℕ) → DigitValues values → is_hex d ≡ true → get_or values d 0 ≡ nibble d
-digit_at values d v h = v.place d (hex_below d h) ∙ (nibble_bits d h).0
-
 -- ---- the bytes of digits
 
 pub unhex_length : (l : List ℕ) → length (unhex l) ≡ length l / 2
@@ -108,10 +76,11 @@ unhex_at (a ∷ b ∷ t) (suc i) h =
     rw (f, e) (unhex_at t i (omega arith))
 
 -- all of them
-pub unhex_end : (l d : List ℕ) (n i : ℕ) → length l ≡ 2 * n → i ≡ n → take i (unhex l) ++ drop i d ≡ unhex l ++ drop n d
-unhex_end l d n i h e =
+pub unhex_end : (l d : List ℕ) (i : ℕ) → length l ≡ 2 * i → length d ≡ i → take i (unhex l) ++ drop i d ≡ unhex l
+unhex_end l d i h e =
     let f : length (unhex l) ≤ i = omega (arith, unhex_length l) in
-    rw (take_all i (unhex l) f, e)
+    let g : length d ≤ i = omega arith in
+    rw (take_all i (unhex l) f, drop_of_length-le d g) (append-nil (unhex l))
 
 -- ---- the frame that a line is
 

@@ -1,12 +1,7 @@
--- The bytes that a line's digits are, the values of digits, and the frame that a line is. Assumes nothing.
-use Rattle.std.specs.Prelude.{◌≡◌, Bool, cond, ◌&&◌, List, [], ℕ, ◌+◌, ◌*◌, ◌/◌, ◌%◌, ◌<◌, eqb, leb, length, take, get_or}
+-- The bytes that a line's digits are, and the frame that a line is. Assumes nothing.
+use Rattle.std.specs.Prelude.{◌≡◌, Bool, cond, ◌&&◌, List, [], ℕ, ◌/◌, ◌%◌, eqb, leb, length, take}
 use Rattle.frame.specs.Hex.{all_hex, unhex}
 use Rattle.frame.specs.Frame.{line_frame}
-
--- 128 places, and at each the sum that is a hexadecimal digit's value where the place is one
-pub record DigitValues (values : List ℕ) : Type 0 where
-  pub long : length values ≡ 128
-  pub place : (d : ℕ) → d < 128 → get_or values d 0 ≡ d % 16 + d / 64 * 9
 
 -- pairs of hexadecimal digits, of at most 352 bytes
 unfoldable pub is_packed : List ℕ → Bool

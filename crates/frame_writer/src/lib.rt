@@ -11,11 +11,11 @@ ghost use Rattle.frame.specs.Filled.{Filled};
 ghost use Rattle.command.specs.View.{to_command, commands};
 ghost use Rattle.octet_writer.specs.Written.{HasRoom, MovedAtMost, Wrote};
 
-use command::Command;
+use command::{Command, Transfer};
 use frame_code_writer::code_digits;
 use frame_message_writer::{write_change, write_deletion, write_query, write_search};
 use octet_writer::Writer;
-use rules::{is_code, is_letters, is_method};
+use rules::{is_code, is_letters, is_method, is_way};
 
 // 01 and 13: code. The kind is the byte that is written. Like the others below, it writes the frame, or nothing of a command that is out of range.
 fn write_code(w: &mut Writer, kind: u8, code: u32)
@@ -29,7 +29,7 @@ fn write_code(w: &mut Writer, kind: u8, code: u32)
     }
 }
 
-// 03 and 04: code, amount.
+// 03 and 04: code, amount. The kind as in `write_code`.
 fn write_amount(w: &mut Writer, kind: u8, code: u32, amount: i64)
     requires { HasRoom 352 w.old }
     ensures moved { MovedAtMost 352 w.old w.new }
@@ -72,17 +72,17 @@ fn write_bank_limits(w: &mut Writer, code: u32, ltk: i64, lpo: i64)
 }
 
 // 06: 0 credit or 1 debit, sender, receiver, amount.
-fn write_payment(w: &mut Writer, way: u8, sender: u32, receiver: u32, amount: i64)
+fn write_payment(w: &mut Writer, p: Transfer)
     requires { HasRoom 352 w.old }
     ensures moved { MovedAtMost 352 w.old w.new }
-    ensures wrote { Wrote (command_frame (Rule.Payment way sender receiver amount ∷ [])) w.old w.new }
+    ensures wrote { Wrote (command_frame (Rule.Payment p.way p.sender p.receiver p.amount ∷ [])) w.old w.new }
 {
-    if (way <= 1) & is_code(sender) & is_code(receiver) {
+    if is_way(p.way) & is_code(p.sender) & is_code(p.receiver) {
         w.put(6u8);
-        w.put(way);
-        w.put_all(&code_digits(sender));
-        w.put_all(&code_digits(receiver));
-        w.put(amount);
+        w.put(p.way);
+        w.put_all(&code_digits(p.sender));
+        w.put_all(&code_digits(p.receiver));
+        w.put(p.amount);
     }
 }
 
@@ -120,14 +120,12 @@ fn write_command(w: &mut Writer, command: Command)
         Command::Funding(code, amount) => write_amount(w, 3, code, amount),
         Command::Withdrawal(code, amount) => write_amount(w, 4, code, amount),
         Command::BankLimits(code, ltk, lpo) => write_bank_limits(w, code, ltk, lpo),
-        Command::Payment(way, sender, receiver, amount) => {
-            write_payment(w, way, sender, receiver, amount)
-        }
-        Command::Change(h, n, items) => write_change(w, h, n, items),
+        Command::Payment(p) => write_payment(w, p),
+        Command::Change(h, items) => write_change(w, h, items),
         Command::Deletion(h, account, kind) => write_deletion(w, h, account, kind),
-        Command::Query(h, n, ids) => write_query(w, h, n, ids),
+        Command::Query(h, ids) => write_query(w, h, ids),
         Command::Opening(day) => write_opening(w, day),
-        Command::Search(h, n, texts) => write_search(w, h, n, texts),
+        Command::Search(h, conditions) => write_search(w, h, conditions),
         Command::Letters(code, letters) => write_letters(w, code, letters),
         Command::Mark(code) => write_code(w, 19, code),
     }

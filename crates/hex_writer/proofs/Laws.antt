@@ -1,13 +1,14 @@
 -- Laws of digits written one byte at a time. Assumes nothing.
-use mathlib.Core.Path.{◌≡◌, refl, ap}
+use mathlib.Core.Path.{◌≡◌, refl, sym, ap, ap₂, ◌∙◌}
 use mathlib.Core.List.{List, [], ◌∷◌, ◌++◌}
 use Prim.Native.Nat.{ℕ, ◌+◌, ◌*◌, ◌/◌, ◌%◌, ◌<◌}
 use native.Mathlib.Numerals.{add-one}
 use native.Mathlib.Omega.{arith}
-use lib.ListN.{length, take, get_or, set}
-use lib.Seq.{take-suc, length-take-le}
+use lib.ListN.{length, take, get_or}
+use lib.Seq.{take-suc}
 use Rattle.octets.specs.Octets.{write}
-use Rattle.octets.proofs.Places.{write_then}
+use Rattle.octet_writer.specs.Written.{Written}
+use Rattle.octet_writer.proofs.Laws.{written_same, written_then}
 use Rattle.frame.specs.Hex.{hex_digit, hex}
 
 pub hex_length : (l : List ℕ) → length (hex l) ≡ 2 * length l
@@ -20,13 +21,14 @@ unfolding hex
 hex_snoc [] b = refl
 hex_snoc (a ∷ t) b = ap (λ (l : List ℕ). hex_digit (a / 16) ∷ hex_digit (a % 16) ∷ l) (hex_snoc t b)
 
-pub write_two : (l : List ℕ) (i j a b : ℕ) → j ≡ i + 1 → set (set l i a) j b ≡ write l i (a ∷ b ∷ [])
-unfolding write
-write_two l i j a b e = rw (e, add-one i)
+-- nothing is written yet
+pub hex_none : {l : List ℕ} {i : ℕ} (r : List ℕ) → Written l i (hex (take 0 r)) l i
+unfolding hex write
+hex_none r = record { bytes = refl; behind = omega arith }
 
 -- one byte more
-pub hex_more : (o r out : List ℕ) (at i p d e : ℕ) → i < length r → p ≡ at + 2 * i → out ≡ write o at (hex (take i r))
-    → d ≡ hex_digit (get_or r i 0 / 16) → e ≡ hex_digit (get_or r i 0 % 16) → set (set out p d) (p + 1) e ≡ write o at (hex (take (i + 1) r))
-hex_more o r out at i p d e h q w x y =
-    let len : p ≡ at + length (hex (take i r)) = omega (arith, hex_length (take i r), length-take-le i r (omega arith)) in
-    rw (w, write_two (write o at (hex (take i r))) p (p + 1) d e refl, write_then o at (hex (take i r)) (d ∷ e ∷ []) p len, x, y, add-one, take-suc r i 0 h, hex_snoc)
+pub hex_more : {l m n o : List ℕ} {at j p q d e : ℕ} (r : List ℕ) (i : ℕ) → i < length r → Written l at (hex (take i r)) m j → Written m j (d ∷ []) n p → Written n p (e ∷ []) o q
+    → d ≡ hex_digit (get_or r i 0 / 16) → e ≡ hex_digit (get_or r i 0 % 16) → Written l at (hex (take (i + 1) r)) o q
+hex_more r i h w x y a b =
+    written_same (ap₂ (λ a b. hex (take i r) ++ (a ∷ b ∷ [])) a b ∙ sym (rw (add-one i, take-suc r i 0 h) (hex_snoc (take i r) (get_or r i 0))))
+    (written_then w (written_then x y))

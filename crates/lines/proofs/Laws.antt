@@ -2,20 +2,18 @@
 use mathlib.Core.Path.{◌≡◌, refl, sym, ap, ◌∙◌}
 use mathlib.Core.Bool.{Bool, true, false, cond}
 use mathlib.Core.List.{List, [], ◌∷◌, ◌++◌, append_assoc, append-nil}
-use Prim.Native.Nat.{ℕ, zero, suc, ◌+◌, ◌*◌, ◌-◌, ◌/◌, ◌%◌, ◌≤◌, ◌<◌}
+use Prim.Native.Nat.{ℕ, zero, suc, ◌+◌, ◌*◌, ◌-◌, ◌≤◌, ◌<◌}
 use native.Mathlib.Numerals.{add-one}
 use native.Mathlib.Omega.{arith}
 use lib.Dec.{eqb}
-use lib.ListN.{length, take, drop, get_or, set, length-append, length-drop}
+use lib.ListN.{length, take, drop, get_or, length-append, length-drop}
 use lib.Seq.{drop-drop, take-add}
 use borrow.Author.Tests.{eq-eqb, ne_eqb, eqb-true}
 use Rattle.std.proofs.Common.{Option, Some, None}
 use Rattle.std.specs.Option.{unwrap_or}
 use Rattle.memchr.specs.Find.{IsFirstByte, is_byte}
-use Rattle.octets.specs.Octets.{write}
-use Rattle.octets.proofs.Places.{write_then}
 use Rattle.frame.specs.Hex.{hex}
-use Rattle.hex_writer.proofs.Laws.{hex_length, write_two}
+use Rattle.hex_writer.proofs.Laws.{hex_length}
 use Rattle.lines.specs.Text.{line_length, push, whole_lines, joined, printed}
 
 -- ---- the next line
@@ -138,18 +136,3 @@ module _ (s : List ℕ) (from e : ℕ) (is : e ≡ from + line_length (drop from
 pub printed_length : (a : ℕ) (r : List ℕ) → length (printed a r) ≡ 2 * length r + 3
 unfolding printed
 printed_length a r = omega (arith, length-append (hex r) (10 ∷ []), hex_length r)
-
--- ---- what is written
-
--- the two digits, the report and the end
-pub line_done : (o r out : List ℕ) (at a p d e : ℕ) → p ≡ at + 2 + 2 * length r → out ≡ write (set (set o at d) (at + 1) e) (at + 2) (hex r)
-    → d ≡ 48 + a / 10 → e ≡ 48 + a % 10 → set out p 10 ≡ write o at (printed a r)
-unfolding printed write
-line_done o r out at a p d e q w x y =
-    let len : p ≡ at + 2 + length (hex r) = omega (arith, hex_length r) in
-    let two : set (set o at d) (at + 1) e ≡ write o at (d ∷ e ∷ []) = write_two o at (at + 1) d e refl in
-    let one : set out p 10 ≡ write out p (10 ∷ []) = refl in
-    let three : write out p (10 ∷ []) ≡ write (set (set o at d) (at + 1) e) (at + 2) (hex r ++ (10 ∷ [])) =
-    ap (λ (l : List ℕ). write l p (10 ∷ [])) w ∙ write_then (set (set o at d) (at + 1) e) (at + 2) (hex r) (10 ∷ []) p len in
-    one ∙ three ∙ ap (λ (l : List ℕ). write l (at + 2) (hex r ++ (10 ∷ []))) two
-    ∙ write_then o at (d ∷ e ∷ []) (hex r ++ (10 ∷ [])) (at + 2) refl ∙ rw (x, y)

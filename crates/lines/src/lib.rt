@@ -2,11 +2,12 @@
 #![tactic(auto)]
 
 ghost use Rattle.std.specs.Prelude.{◌≡◌, ◌+◌, ◌*◌, ◌<◌, ◌≤◌, length, MatchOption};
-ghost use Rattle.octets.specs.Octets.{write};
 ghost use Rattle.lines.specs.Text.{next_end, printed};
+ghost use Rattle.octet_writer.specs.Written.{HasRoom, Moved, Wrote};
 
 use hex_writer::put_hex;
 use memchr::memchr;
+use octet_writer::Writer;
 
 // The bytes lent to a line for its report.
 pub const REPORT_ROOM: usize = 8192;
@@ -26,16 +27,16 @@ pub fn next_end(lines: &[u8], from: usize, room: usize) -> Option<usize>
     Some(from + memchr(b'\n', &lines[from..])?)
 }
 
-// Writes the answer line of a report from `at` on, and gives the place behind it. The answer's two digits are bytes of a lent buffer, where std prints a text.
-#[tactic(auto, using(crate::proofs::Laws::line_done))]
-pub fn write_line(out: &mut [u8], at: usize, answer: u64, report: &[u8]) -> usize
-    requires { (at + (2 * length report.now + 3) ≤ length out.old) × (answer < 100) }
-    ensures { (out.new ≡ write out.old at (printed answer report.now)) × (result ≡ at + (2 * length report.now + 3)) }
+// Writes the answer line of a report. The answer is a number and no `Refusal`: any below 100 has its line, also one that no refusal has. Its two digits are bytes of
+// a lent buffer, where std prints a text.
+pub fn write_line(w: &mut Writer, answer: u64, report: &[u8])
+    requires room { HasRoom (2 * length report.now + 3) w.old }
+    requires answer { answer < 100 }
+    ensures moved { Moved (2 * length report.now + 3) w.old w.new }
+    ensures wrote { Wrote (printed answer report.now) w.old w.new }
 {
-    out[at] = b'0' + (answer / 10) as u8;
-    out[at + 1] = b'0' + (answer % 10) as u8;
-    put_hex(out, at + 2, report);
-    let end = at + 2 + 2 * report.len();
-    out[end] = b'\n';
-    end + 1
+    w.put(b'0' + (answer / 10) as u8);
+    w.put(b'0' + (answer % 10) as u8);
+    put_hex(w, report);
+    w.put(b'\n');
 }

@@ -3,4 +3,4 @@ use Rattle.command.proofs.header_at.Goals as goal
 
 pub returns : goal.returns
 unfolding to_header
-returns c = rw (c.code_at.ensures, c.bytes_at.ensures, c.u32_at.ensures, c.u32_at-2.ensures)
+returns c = rw (c.code_at.ensures, c.read.ensures, c.read-2.ensures, c.read-3.ensures)

@@ -38,7 +38,7 @@ pub returns-in-6 : goal.returns-in-6
 unfolding are_fields may width size row_size layout fields_of
 returns-in-6 c =
     let a = c in
-    kind _ _ 6 _ a.in-6.is a.at-kind.ensures (rw (c.is_code_at-in-6-2.ensures, c.is_code_at-in-6.ensures, c.at-in-6.ensures))
+    kind _ _ 6 _ a.in-6.is a.at-kind.ensures (rw (c.is_code_at-in-6-2.ensures, c.is_code_at-in-6.ensures, c.is_way.ensures, c.at-in-6.ensures))
 
 pub returns-in-7 : goal.returns-in-7
 unfolding are_fields may width size row_size layout fields_of

@@ -1,4 +1,5 @@
 use mathlib.Core.Path.{◌≡◌, refl}
+use borrow.Author.Rules.{rules}
 use native.Mathlib.Omega.{arith}
 use lib.ListN.{length}
 use Rattle.octets.specs.Octets.{write}
@@ -15,4 +16,5 @@ returns-then-is_empty c =
 pub returns : goal.returns
 returns c =
     let e = last_some c.args.line.now (λ z. grind arith) in
-    (rw e c.echo.ensures.0, rw e (omega (arith, c.echo.ensures.1)))
+    let w = rw (c.new-w.ensures.1, c.new-w.ensures.2) at c.echo.ensures.wrote in
+    rw e (search rules)

@@ -1,41 +1,19 @@
 use borrow.Author.Rules.{rules}
-use mathlib.Core.Path.{◌≡◌, sym, ap, ◌∙◌}
+use mathlib.Core.Path.{◌≡◌}
 use mathlib.Core.Bool.{◌&&◌}
-use mathlib.Core.List.{map, [], ◌∷◌}
-use Prim.Native.Nat.{ℕ}
-use native.Mathlib.Omega.{arith}
-use lib.ListN.{length, length-map}
+use lib.ListN.{length}
 use lib.Dec.{leb}
 use Rattle.rules.specs.Command.{Change, is_code, is_count, well_formed}
-use Rattle.frame.specs.Field.{plain_bytes, rows_bytes, bytes_of, all_bytes}
-use Rattle.frame.specs.Frame.{item_row, kind_byte, fields_of, kind_of, values_of, frame_of, item_values}
 use Rattle.command.specs.View.{to_header, items_from}
-use Rattle.command.proofs.Forms.{change_formed, items_length, items_taken}
-use Rattle.octet_writer.proofs.Laws.{written_same, written_then}
-use Rattle.frame_code_writer.proofs.Fields.{lastly, refused, written, message}
-use Rattle.frame_message_writer.proofs.write_change.Goals.{Start}
+use Rattle.command.proofs.Forms.{change_formed, count_most}
+use Rattle.octet_writer.proofs.Laws.{written_same}
+use Rattle.frame_message_writer.proofs.Rows.{row_frame, change_frame}
 use Rattle.frame_message_writer.proofs.write_change.Goals as goal
 
-formed : (s : Start) → well_formed (Change (to_header s.args.h) (items_from 0 s.args.n s.args.items))
-    ≡ ((is_code s.args.h.sender && leb s.args.h.second 86399) && is_count s.args.n)
-formed s = let l : length s.args.items ≡ 16 = search rules in search (rules, change_formed)
-
-pub returns-then-not-is_ranged-clause-wrote : goal.returns-then-not-is_ranged-clause-wrote
-unfolding is_count
-returns-then-not-is_ranged-clause-wrote c =
-    refused (Change (to_header c.args.h) (items_from 0 c.args.n c.args.items))
-    (formed (goal.at.returns-then-not-is_ranged-clause-wrote c).Start ∙ sym c.is_ranged.ensures.fits ∙ c.if-not-is_ranged.true)
-
 pub returns-clause-wrote : goal.returns-clause-wrote
-unfolding to_header is_count frame_of kind_of kind_byte fields_of values_of all_bytes bytes_of plain_bytes
 returns-clause-wrote c =
-    let items = items_from 0 c.args.n c.args.items in
-    let n : length (map item_values items) ≡ c.args.n = length-map items item_values ∙ items_length c.args.items 0 c.args.n in
-    let l : length c.args.items ≡ 16 = search rules in
-    let t = items_taken c.args.n c.args.items (omega (arith, c.is_ranged.ensures.count c.if-not-is_ranged.false)) in
-    written (Change (to_header c.args.h) items)
-    (formed (goal.at.returns-clause-wrote c).Start ∙ sym c.is_ranged.ensures.fits ∙ c.if-not-is_ranged.false)
-    (message 7 _ _ _ c.args.h.id _ c.put_header.ensures.wrote
-    (lastly
-    (written_then (written_same (ap (λ (k : ℕ). k ∷ []) (sym n)) c.put.ensures.wrote)
-    (written_same (ap (λ is. rows_bytes item_row (map item_values is)) (sym t)) c.put_items.ensures.wrote))))
+    let h = c.args.h in
+    let l : length c.args.items.rows ≡ 16 = search rules in
+    let e : well_formed (Change (to_header h) (items_from 0 c.args.items.count c.args.items.rows)) ≡ ((is_code h.sender && leb h.second 86399) && is_count c.args.items.count) =
+    search (rules, change_formed) in
+    written_same (row_frame _ _ _ e (λ t. change_frame h c.args.items.count (count_most h c.args.items.count t) c.args.items.rows l)) c.write_rows.ensures.wrote

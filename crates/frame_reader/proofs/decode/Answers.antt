@@ -8,10 +8,10 @@ use Rattle.frame_reader.proofs.Reader.{copy_more, hex_at, unhex_at, unhex_end, u
 use Rattle.frame_reader.proofs.decode.Goals as goal
 
 pub digit_value-requires : goal.digit_value-requires
-digit_value-requires c = hex_at c.args.line.now _ c.requires.2 (omega arith)
+digit_value-requires c = hex_at c.args.line.now _ c.requires.1 (omega arith)
 
 pub digit_value-requires-in-loop-i : goal.digit_value-requires-in-loop-i
-digit_value-requires-in-loop-i c = hex_at c.args.line.now _ c.requires.2 (omega arith)
+digit_value-requires-in-loop-i c = hex_at c.args.line.now _ c.requires.1 (omega arith)
 
 pub loop-i-preserved : goal.loop-i-preserved
 loop-i-preserved c =
@@ -21,4 +21,4 @@ loop-i-preserved c =
     (rw (c.digit_value.ensures.0, c.digit_value-in-loop-i.ensures.0) (sym (unhex_at c.args.line.now c.loop-i.i (omega arith))))
 
 pub returns : goal.returns
-returns c = c.loop-i.invariant ∙ unhex_end c.args.line.now c.args.buf.now c.args.n c.loop-i.i c.requires.0 (omega arith)
+returns c = c.loop-i.invariant ∙ unhex_end c.args.line.now c.args.buf.now c.loop-i.i (omega arith) (omega arith)

@@ -1,4 +1,4 @@
-use mathlib.Core.Path.{◌≡◌, sym, ◌∙◌}
+use mathlib.Core.Path.{◌≡◌, refl, sym, ◌∙◌}
 use mathlib.Core.Bool.{false}
 use native.Mathlib.Omega.{arith}
 use Rattle.frame_reader.specs.Unpacked.{is_packed}
@@ -16,5 +16,5 @@ unfolding is_packed
 returns c = (
   grind arith,
   read_digits c.args.line.now c.if-line-ne0.false (omega (arith, c.if-n-gt352.false))
-      (sym c.all_hex.ensures ∙ c.if-not-all_hex.false) c.args.buf.now _ c.decode.ensures,
+      (sym c.all_hex.ensures ∙ c.if-not-all_hex.false) c.args.buf.now _ (rw c.decode.ensures refl),
 )

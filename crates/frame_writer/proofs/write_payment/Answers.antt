@@ -1,7 +1,9 @@
-use lib.Dec.{leb}
-use mathlib.Core.Path.{sym, ap, ap₂, ◌∙◌}
-use mathlib.Core.Bool.{Bool, ◌&&◌}
+use mathlib.Core.Path.{sym, ap₂, ◌∙◌}
+use mathlib.Core.Bool.{◌&&◌}
+use mir.Syntax.{w64}
+use mir.Val.{SFits}
 use mir.Facts.{to_z-of_z}
+use borrow.Author.Rules.{rules}
 use Rattle.octets.proofs.Numbers.{fits_money}
 use Rattle.rules.specs.Command.{Payment}
 use Rattle.command.proofs.Forms.{payment_formed}
@@ -11,20 +13,22 @@ use Rattle.octet_writer.proofs.Laws.{written_then}
 use Rattle.frame_code_writer.proofs.Fields.{lastly, refused, written}
 use Rattle.frame_writer.proofs.write_payment.Goals as goal
 
-pub returns-then-way-is_code-clause-wrote : goal.returns-then-way-is_code-clause-wrote
+pub returns-then-is_way-is_code-clause-wrote : goal.returns-then-is_way-is_code-clause-wrote
 unfolding frame_of kind_of kind_byte fields_of values_of all_bytes bytes_of plain_bytes
-returns-then-way-is_code-clause-wrote c =
-    written (Payment c.args.way c.args.sender c.args.receiver c.args.amount)
-    (payment_formed c.args.way c.args.sender c.args.receiver c.args.amount (fits_money c.args.amount c.ranges.amount)
-    ∙ sym (ap₂ ◌&&◌ (ap (λ (t : Bool). leb c.args.way 1 && t) c.is_code.ensures) c.is_code-2.ensures) ∙ c.if-way-is_code.true)
+returns-then-is_way-is_code-clause-wrote c =
+    let f : SFits w64 c.args.p.amount = search rules in
+    written (Payment c.args.p.way c.args.p.sender c.args.p.receiver c.args.p.amount)
+    (payment_formed c.args.p.way c.args.p.sender c.args.p.receiver c.args.p.amount (fits_money c.args.p.amount f)
+    ∙ sym (ap₂ ◌&&◌ (ap₂ ◌&&◌ c.is_way.ensures c.is_code.ensures) c.is_code-2.ensures) ∙ c.if-is_way-is_code.true)
     (written_then c.put.ensures.wrote
-    (written_then c.put-then-way-is_code.ensures.wrote
+    (written_then c.put-then-is_way-is_code.ensures.wrote
     (written_then (rw c.code_digits.ensures at c.put_all.ensures.wrote)
-    (written_then (rw c.code_digits-then-way-is_code.ensures at c.put_all-then-way-is_code.ensures.wrote)
-    (lastly (rw (to_z-of_z c.ranges.amount) at c.put-then-way-is_code-2.ensures.wrote))))))
+    (written_then (rw c.code_digits-then-is_way-is_code.ensures at c.put_all-then-is_way-is_code.ensures.wrote)
+    (lastly (rw (to_z-of_z f) at c.put-then-is_way-is_code-2.ensures.wrote))))))
 
-pub returns-else-way-is_code-clause-wrote : goal.returns-else-way-is_code-clause-wrote
-returns-else-way-is_code-clause-wrote c =
-    refused (Payment c.args.way c.args.sender c.args.receiver c.args.amount)
-    (payment_formed c.args.way c.args.sender c.args.receiver c.args.amount (fits_money c.args.amount c.ranges.amount)
-    ∙ sym (ap₂ ◌&&◌ (ap (λ (t : Bool). leb c.args.way 1 && t) c.is_code.ensures) c.is_code-2.ensures) ∙ c.if-way-is_code.false)
+pub returns-else-is_way-is_code-clause-wrote : goal.returns-else-is_way-is_code-clause-wrote
+returns-else-is_way-is_code-clause-wrote c =
+    let f : SFits w64 c.args.p.amount = search rules in
+    refused (Payment c.args.p.way c.args.p.sender c.args.p.receiver c.args.p.amount)
+    (payment_formed c.args.p.way c.args.p.sender c.args.p.receiver c.args.p.amount (fits_money c.args.p.amount f)
+    ∙ sym (ap₂ ◌&&◌ (ap₂ ◌&&◌ c.is_way.ensures c.is_code.ensures) c.is_code-2.ensures) ∙ c.if-is_way-is_code.false)

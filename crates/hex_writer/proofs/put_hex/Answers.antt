@@ -1,17 +1,13 @@
--- The digits of the first i bytes are written. Assumes nothing.
-use mathlib.Core.Path.{refl}
-use Prim.Native.Nat.{◌+◌, ◌*◌}
-use native.Mathlib.Omega.{arith}
-use Rattle.octets.specs.Octets.{write}
-use Rattle.frame.specs.Hex.{hex}
-use Rattle.hex_writer.proofs.Laws.{hex_more}
+-- The digits of the bytes passed are written. Assumes nothing.
+use borrow.Author.Rules.{rules}
+use Rattle.hex_writer.proofs.Laws.{hex_none, hex_more}
 use Rattle.hex_writer.proofs.put_hex.Goals as goal
 
-pub loop-i-init : goal.loop-i-init
-unfolding hex write
-loop-i-init c = refl
+pub loop-b-init : goal.loop-b-init
+loop-b-init c = (search rules, hex_none c.args.src.now)
 
-pub loop-i-preserved : goal.loop-i-preserved
-loop-i-preserved c =
-    hex_more c.args.out.now c.args.src.now c.loop-i.out c.args.at c.loop-i.i (c.args.at + 2 * c.loop-i.i) _ _ (omega arith) refl c.loop-i.invariant c.hex_digit.ensures
-    c.hex_digit-in-loop-i.ensures
+pub loop-b-preserved : goal.loop-b-preserved
+loop-b-preserved c = (
+  search rules,
+  hex_more c.args.src.now c.loop-b.b-index c.loop-b-test.true c.loop-b.invariant.1 c.put.ensures.wrote c.put-in-loop-b.ensures.wrote c.hex_digit.ensures c.hex_digit-in-loop-b.ensures,
+)
