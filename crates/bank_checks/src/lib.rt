@@ -1,8 +1,8 @@
 // The checks that a call on a bank's account begins with.
 #![tactic(auto)]
 
-ghost use Rattle.std.specs.Prelude.{◌≡◌, ◌<◌, OnOk, IfOk};
-ghost use Rattle.rules.specs.Account.{is_bank, known, at, codes};
+ghost use Rattle.std.specs.Prelude.{◌≡◌, ◌<◌, IfOk};
+ghost use Rattle.rules.specs.Account.{is_bank, known, at};
 ghost use Rattle.rules.specs.Command.{is_code};
 ghost use Rattle.rules.specs.Machine.{first_failure};
 ghost use Rattle.refusal.specs.Answer.{number, answer_of};

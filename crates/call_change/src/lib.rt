@@ -5,7 +5,7 @@ ghost use Rattle.rules.specs.Command.{Change};
 ghost use Rattle.command.specs.View.{to_header, items_from};
 ghost use Rattle.ledger.specs.Promise.{Settles};
 
-use command::{ChangeItem, Header, is_header};
+use command::{ChangeItem, Header, Rows, is_header};
 use ledger::Ledger;
 use message_checks::{header_checks, named_checks};
 use message_items::records;
@@ -14,16 +14,12 @@ use refusal::Refusal;
 use rules::is_count;
 
 // The items are looked at only once the header has passed: then there are at most 16.
-pub fn change(
-    l: &mut Ledger,
-    header: Header,
-    items: [ChangeItem; 16],
-    n: usize,
-) -> Result<(), Refusal>
-    ensures { Settles (Change (to_header header) (items_from 0 n items)) l.old result l.new }
+#[tactic(auto, using(command::proofs::Forms::count_most), unfolding(table::specs::View::accounts_of, rules::specs::Command::is_count))]
+pub fn change(l: &mut Ledger, header: Header, items: Rows<ChangeItem>) -> Result<(), Refusal>
+    ensures { Settles (Change (to_header header) (items_from 0 items.count items.rows)) l.old result l.new }
 {
-    header_checks(l, is_header(header) & is_count::<16>(n), header)?;
-    let items = records(&items[..n]);
+    header_checks(l, is_header(header) & is_count::<16>(items.count), header)?;
+    let items = records(&items.rows[..items.count]);
     named_checks(l, header, &items)?;
     l.book.add(&header.id, l.table.today());
     let t = &mut l.table;

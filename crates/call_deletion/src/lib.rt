@@ -15,12 +15,13 @@ use refusal::Refusal;
 
 // The item of a deletion has no value: its limit is deleted. The last steps are those of a change; a function of both would ask for all that the header's
 // checks say.
+#[tactic(auto, unfolding(table::specs::View::accounts_of))]
 pub fn deletion(l: &mut Ledger, header: Header, account: [u8; 10], kind: u8) -> Result<(), Refusal>
     ensures { Settles (Deletion (to_header header) account kind) l.old result l.new }
 {
     header_checks(l, is_header(header), header)?;
     let item = Item {
-        code: named(&account, 0),
+        code: named(&account),
         kind,
         value: None,
     };

@@ -4,31 +4,31 @@
 ghost use Rattle.rules.specs.Command.{Funding, Withdrawal};
 ghost use Rattle.table.specs.Promise.{Calls};
 
-use account_booking::{amount_of, start_down, start_up};
+use account_booking::{start_down, start_up};
 use account_state::{covers, total_fits};
-use amount::is_amount;
+use amount::{amount_of, is_amount};
 use bank_checks::bank_checks;
 use refusal::{Refusal, check};
-use table::{Table, total};
+use table::Table;
 
 // A funding.
 pub fn fund(t: &mut Table, code: u32, amount: i64) -> Result<(), Refusal>
     ensures { Calls (Funding code amount) t.old result t.new }
 {
     let place = bank_checks(t, code, is_amount(amount), Refusal::OutOfRange)?;
-    let kopiyky = amount_of(amount);
-    check(total_fits(total(t), kopiyky), Refusal::NoRoom)?;
-    t.accounts[place] = start_up(t.accounts[place], kopiyky);
+    let n = amount_of(amount);
+    check(total_fits(t.total(), n), Refusal::NoRoom)?;
+    t.accounts[place] = start_up(t.accounts[place], n);
     Ok(())
 }
 
-// A withdrawal. Beside `fund`: all but the first two lines differs, and one function for both would take two closures with contracts.
+// A withdrawal. Beside `fund`: what is tested and what is stored differ, and one function for both would take two closures with contracts.
 pub fn withdraw(t: &mut Table, code: u32, amount: i64) -> Result<(), Refusal>
     ensures { Calls (Withdrawal code amount) t.old result t.new }
 {
     let place = bank_checks(t, code, is_amount(amount), Refusal::OutOfRange)?;
-    let kopiyky = amount_of(amount);
-    check(covers(t.accounts[place], kopiyky), Refusal::BankLtk)?;
-    t.accounts[place] = start_down(t.accounts[place], kopiyky);
+    let n = amount_of(amount);
+    check(covers(t.accounts[place], n), Refusal::BankLtk)?;
+    t.accounts[place] = start_down(t.accounts[place], n);
     Ok(())
 }

@@ -24,7 +24,7 @@ use Rattle.table.specs.View.{accounts_of}
 use Rattle.table.proofs.Stored.{Stored, stored_at, stored_room, stored_one}
 use Rattle.payment_booking.specs.Share.{share}
 use Rattle.payment_booking.proofs.Laws.{share_most}
-use Rattle.payment_parties.specs.declared.Party as Place
+use Rattle.account.specs.declared.Party.{Party}
 use Rattle.payment_parties.specs.Finding.{PartyAt}
 
 -- ---- the machine's booking
@@ -58,7 +58,7 @@ book_is k n c xs =
 -- ---- the table's: of a party and its bank, in accounts xs whose owners are still the table's
 
 module _ (t : Table) (g : Good t) {arr : List Account} {b : ℕ} {xs : List Rule.Account} (s : Stored t arr b xs) (low : b ≤ 3 * 10 ^ 17)
-    {c : ℕ} {f : Place.Party} (p : PartyAt t c f) (owner : (at c xs).owner ≡ (at c (accounts_of t)).owner) (kind : Turnover) (d : Account) where
+    {c : ℕ} {f : Party ℕ} (p : PartyAt t c f) (owner : (at c xs).owner ≡ (at c (accounts_of t)).owner) (kind : Turnover) (d : Account) where
   same_bank : bank_of c (accounts_of t) ≡ bank_of c xs
   unfolding bank_of
   same_bank = ap (λ o. bank_or o c) (sym owner)

@@ -6,17 +6,17 @@ use lib.ListN.{get_or, set}
 use lib.IntN.{nat_abs}
 use lib.Dec.{T}
 use Rattle.amount.specs.Amount.{is_amount}
+use Rattle.amount.proofs.Laws.{amount_range}
 use Rattle.rules.specs.Account.{turnover}
 use Rattle.rules.specs.Machine.{answer}
 use Rattle.rules.specs.Payment.{is_credit, payer, out_turnover, in_turnover, raised, book_party}
 use Rattle.account.specs.declared.Account.{Account}
 use Rattle.account.specs.View.{to_account}
-use Rattle.account.proofs.Laws.{amount_range}
 use Rattle.table.specs.declared.Table.{Table}
 use Rattle.table.specs.Promise.{Good, call, Called}
 use Rattle.table.specs.View.{accounts_of, machine_of}
 use Rattle.table.proofs.Stored.{Stored, stored_none, stored_called}
-use Rattle.payment_parties.specs.declared.Transfer.{Transfer}
+use Rattle.command.specs.declared.Transfer.{Transfer}
 use Rattle.payment_parties.specs.declared.Parties.{Parties}
 use Rattle.payment_parties.specs.Finding.{PartiesAt}
 use Rattle.payment_booking.specs.Share.{share}

@@ -23,7 +23,7 @@ use Rattle.table.specs.Promise.{call, FoundAt}
 use Rattle.table.specs.View.{accounts_of, machine_of}
 use Rattle.payment_letters.specs.Sides.{sides_pass}
 use Rattle.payment_checks.specs.Checks.{early_checks, party_checks}
-use Rattle.payment_parties.specs.declared.Transfer.{Transfer}
+use Rattle.command.specs.declared.Transfer.{Transfer}
 use Rattle.payment_parties.specs.declared.Parties.{Parties}
 use Rattle.payment_parties.specs.Finding.{PartiesAt}
 use Rattle.payment_parties.proofs.Banks.{both_known}

@@ -10,10 +10,13 @@ ghost use Rattle.table.specs.Promise.{Calls, call};
 ghost use Rattle.table.specs.View.{machine_of};
 ghost use Rattle.payment_parties.specs.Finding.{PartiesAt};
 
-use account_booking::{Side, amount_of};
+use account::Party;
+use account_booking::Side;
+use amount::amount_of;
+use command::Transfer;
 use payment_booking::{bank_booked, own_booked};
 use payment_checks::{early, late};
-use payment_parties::{Parties, Transfer, find_parties};
+use payment_parties::{Parties, find_parties};
 use refusal::Refusal;
 use table::Table;
 
@@ -24,11 +27,15 @@ pub fn decide(t: &Table, p: Transfer) -> Result<Parties, Refusal>
     ensures amount { OnOk result (T (is_amount p.amount)) }
 {
     let parties = early(p, find_parties(t, p))?;
-    let x = t.accounts[parties.payer.account];
-    let b = t.accounts[parties.payer.bank];
-    let y = t.accounts[parties.payee.account];
-    let d = t.accounts[parties.payee.bank];
-    late(p.is_credit(), amount_of(p.amount), x, b, y, d)?;
+    let payer = Party {
+        account: t.accounts[parties.payer.account],
+        bank: t.accounts[parties.payer.bank],
+    };
+    let payee = Party {
+        account: t.accounts[parties.payee.account],
+        bank: t.accounts[parties.payee.bank],
+    };
+    late(p.is_credit(), amount_of(p.amount), payer, payee)?;
     Ok(parties)
 }
 

@@ -6,7 +6,7 @@ use Prim.Native.Nat.{ℕ, zero, suc, ◌+◌, ◌≤◌, ◌<◌}
 use native.Mathlib.Omega.{arith}
 use borrow.Author.Tests.{leb-true, leb-false, lt-ltb, le-ltb}
 use lib.Dec.{T, leb, ltb, ltb→lt}
-use lib.ListN.{length, take}
+use lib.ListN.{length}
 use Rattle.octets.specs.Octets.{write}
 use Rattle.octets.proofs.Places.{take_none}
 use Rattle.rules.specs.Account as Rule
@@ -19,7 +19,7 @@ use Rattle.rules.proofs.Bools.{and_l, and_r}
 use Rattle.rules.proofs.Checks.{refused_keeps}
 use Rattle.rules.proofs.Theorem.{next_keeps, start_inv}
 use Rattle.table.specs.declared.Table.{Table}
-use Rattle.table.specs.Promise.{Reply, Good, Called}
+use Rattle.table.specs.Promise.{Reply, OwnCodes, Good, Called}
 use Rattle.table.specs.View.{accounts_of, machine_of}
 use Rattle.book.specs.declared.Book.{Book}
 use Rattle.book.specs.Entries.{entries_of, book_of, Lengths, Behind, Added, Dropped}
@@ -39,7 +39,7 @@ module _ (t : Table) (ids days : List ℕ) (used : ℕ) where
   view_is = refl
 
   pub good_table : Sound t ids days used → Good t
-  good_table g = record { within = g.within; same = g.same; inv = inv_table (entries_of ids days used) t (subst Invariant view_is g.inv) }
+  good_table g = record { own = g.own; inv = inv_table (entries_of ids days used) t (subst Invariant view_is g.inv) }
 
   pub unchanged : Same t ids days used t ids days used
   unchanged = record { table_same = refl; ids_same = refl; days_same = refl; used_same = refl }
@@ -57,11 +57,10 @@ module _ (k : Command) (t : Table) (ids days : List ℕ) (used : ℕ) where
   }
 
   -- the record after an accepted call is sound where it is the machine's next
-  pub next_sound : Sound t ids days used → (room : ℕ) (u : Table) (ids' days' : List ℕ) (used' : ℕ) → u.count ≤ 64 → take u.count u.codes ≡ codes (accounts_of u) → used' ≤ 1024 → Lengths ids' days'
+  pub next_sound : Sound t ids days used → (room : ℕ) (u : Table) (ids' days' : List ℕ) (used' : ℕ) → OwnCodes u.codes u.count (accounts_of u) → used' ≤ 1024 → Lengths ids' days'
       → view_of u ids' days' used' ≡ next (view_of t ids days used) (lent room k) → Sound u ids' days' used'
-  next_sound g room u ids' days' used' w q f l v = record {
-    within = w;
-    same = q;
+  next_sound g room u ids' days' used' o f l v = record {
+    own = o;
     few = f;
     lengths = l;
     inv = subst Invariant (sym v) (next_keeps (view_of t ids days used) (lent room k) g.inv).inv;
@@ -71,12 +70,12 @@ module _ (k : Command) (t : Table) (ids days : List ℕ) (used : ℕ) where
   unfolding next if_accepted
   next_effect room e = sym (ap (λ n. if_accepted n (effect (view_of t ids days used) k) (view_of t ids days used)) e)
 
-  pub settled_yes : (u : Table) (ids' days' : List ℕ) (used' : ℕ) → answer (view_of t ids days used) (lent 0 k) ≡ 0 → u.count ≤ 64 → take u.count u.codes ≡ codes (accounts_of u)
+  pub settled_yes : (u : Table) (ids' days' : List ℕ) (used' : ℕ) → answer (view_of t ids days used) (lent 0 k) ≡ 0 → OwnCodes u.codes u.count (accounts_of u)
       → used' ≤ 1024 → Lengths ids' days' → Behind ids days ids' days' used' → view_of u ids' days' used' ≡ effect (view_of t ids days used) k
       → Settled k t ids days used (record { answer = 0; table = u; used = used' }) ids' days'
-  settled_yes u ids' days' used' e w q f l b v =
+  settled_yes u ids' days' used' e o f l b v =
       let moved : view_of u ids' days' used' ≡ next (view_of t ids days used) (lent 0 k) = v ∙ next_effect 0 e in
-      record { says = sym e; moves = moved; refused = λ h. absurd (h refl); behind = b; sound = λ g. next_sound g 0 u ids' days' used' w q f l moved }
+      record { says = sym e; moves = moved; refused = λ h. absurd (h refl); behind = b; sound = λ g. next_sound g 0 u ids' days' used' o f l moved }
 
 -- a call on the table alone
 pub settled_table : (k : Command) (t : Table) (ids days : List ℕ) (used : ℕ) (r : Reply) → T (plain k) → Called k t r
@@ -89,7 +88,7 @@ settled_table k t ids days used r p c =
       moves = l.1;
       refused = λ h. record { table_same = c.refused h; ids_same = refl; days_same = refl; used_same = refl };
       behind = untouched ids days used;
-      sound = λ g. let good = c.good (good_table t ids days used g) in next_sound k t ids days used g 0 r.table ids days used good.within good.same g.few g.lengths l.1;
+      sound = λ g. let good = c.good (good_table t ids days used g) in next_sound k t ids days used g 0 r.table ids days used good.own g.few g.lengths l.1;
     }
 
 -- 0a: the table's part, and where it is accepted ids have left the book
@@ -113,7 +112,7 @@ settled_day_yes d t ids days used r ids' days' kept few c z b =
       moves = moved;
       refused = λ h. absurd (h z);
       behind = b.behind;
-      sound = λ g. let good = c.good (good_table t ids days used g) in next_sound (Opening d) t ids days used g 0 r.table ids' days' kept good.within good.same (omega (arith, b.fewer, few)) b.lengths moved;
+      sound = λ g. let good = c.good (good_table t ids days used g) in next_sound (Opening d) t ids days used g 0 r.table ids' days' kept good.own (omega (arith, b.fewer, few)) b.lengths moved;
     }
 
 -- ---- a message's id joins the book
@@ -198,4 +197,4 @@ pub started : (t : Table) (b : Book) → Good t → machine_of t ≡ empty → b
 unfolding ledger_view view_of machine_of book_of empty with_book
 started t b g m none e long days_long =
     let seen : view_of t b.ids b.days b.used ≡ empty = ap (λ es. with_book es (machine_of t)) e ∙ ap (with_book []) m in
-    (record { within = g.within; same = g.same; few = omega (arith, none); lengths = record { ids_long = long; days_long = days_long }; inv = subst Invariant (sym seen) start_inv }, seen)
+    (record { own = g.own; few = omega (arith, none); lengths = record { ids_long = long; days_long = days_long }; inv = subst Invariant (sym seen) start_inv }, seen)

@@ -1,11 +1,11 @@
 -- What a record is, and what every call on it promises. Assumes nothing.
 use Rattle.std.specs.Prelude.{◌≡◌, List, ℕ, ◌≤◌, length, take, Result, Ok, Err}
 use Rattle.octets.specs.Octets.{write}
-use Rattle.rules.specs.Account.{codes}
 use Rattle.rules.specs.Command.{Command}
 use Rattle.rules.specs.Invariant.{Invariant}
 use Rattle.rules.specs.Machine.{answer, next}
 use Rattle.table.specs.declared.Table.{Table}
+use Rattle.table.specs.Promise.{OwnCodes}
 use Rattle.table.specs.View.{accounts_of}
 use Rattle.refusal.specs.declared.Refusal.{Refusal}
 use Rattle.refusal.specs.Answer.{answer_of}
@@ -15,9 +15,7 @@ use Rattle.ledger.specs.View.{view_of, lent, outcome_of, next_of}
 
 -- what holds of every record of the program
 pub record Sound (t : Table) (ids days : List ℕ) (used : ℕ) : Type 0 where
-  pub within : t.count ≤ 64
-  -- the codes beside the accounts are the accounts' own
-  pub same : take t.count t.codes ≡ codes (accounts_of t)
+  pub own : OwnCodes t.codes t.count (accounts_of t)
   pub few : used ≤ 1024
   pub lengths : Lengths ids days
   pub inv : Invariant (view_of t ids days used)

@@ -38,11 +38,8 @@ pub fn is_branch_of(t: &Table, sender: u32, code: u32) -> bool
 pub fn is_later(t: &Table, sender: u32, code: u32, moment: Moment) -> bool
     ensures { result ≡ (not (Message.is_branch_of sender code (accounts_of t.now)) || Message.later (at code (accounts_of t.now)).moment (at_moment moment)) }
 {
-    match t.find(code) {
-        Some(place) => {
-            let x = t.accounts[place];
-            !x.is_owned_by(sender) || x.is_later(moment)
-        }
-        None => true,
-    }
+    t.find(code).is_none_or(|place| {
+        let x = t.accounts[place];
+        !x.is_owned_by(sender) || x.is_later(moment)
+    })
 }

@@ -61,5 +61,5 @@ module _ (k : Command) (l : Ledger) (report : List ℕ) where
         fits = z;
         refused = λ r. absurd (r refl);
         behind = rw more b.behind;
-        sound = λ g. next_sound k l.table l.book.ids l.book.days l.book.used g (length report) u.table u.book.ids u.book.days u.book.used (rw same g.within) (rw same g.same) (omega arith) b.lengths moved;
+        sound = λ g. next_sound k l.table l.book.ids l.book.days l.book.used g (length report) u.table u.book.ids u.book.days u.book.used (rw same g.own) (omega arith) b.lengths moved;
       }

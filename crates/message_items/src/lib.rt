@@ -43,7 +43,7 @@ pub fn records(items: &[ChangeItem]) -> ArrayVec<Item, 16>
     let mut records = ArrayVec::new();
     for item in items {
         records.push(Item {
-            code: named(&item.account, 0),
+            code: named(&item.account),
             kind: item.kind,
             value: Some(item.value),
         });

@@ -26,11 +26,11 @@ module _ {numbers : List ℕ} {accounts : List Account} {n : ℕ} (g : Listed nu
   none_set e =
       sym
       (adjust_place c f (in_use accounts n)
-      ∙ set_past (in_use accounts n) _ (f (at c (in_use accounts n))) (omega (arith, ap (place_of c) g.same, e, length-map (take n accounts) to_account, length-take n accounts)))
+      ∙ set_past (in_use accounts n) _ (f (at c (in_use accounts n))) (omega (arith, ap (place_of c) g.own.same, e, length-map (take n accounts) to_account, length-take n accounts)))
 
   module _ (i : ℕ) (e : i ≡ place_of c (take n numbers)) (h : i < n) (y d : Account) (q : to_account y ≡ f (to_account (get_or accounts i d))) where
     here : i ≡ place_of c (codes (in_use accounts n))
-    here = e ∙ ap (place_of c) g.same
+    here = e ∙ ap (place_of c) g.own.same
 
     -- the account there is that of the code
     stands : to_account (get_or accounts i d) ≡ at c (in_use accounts n)
@@ -38,7 +38,7 @@ module _ {numbers : List ℕ} {accounts : List Account} {n : ℕ} (g : Listed nu
         sym
         (at_place c (in_use accounts n)
         ∙ ap (λ j. get_or (in_use accounts n) j blank) (sym here)
-        ∙ map_get_or to_account (take n accounts) i d blank (omega (arith, length-take-le n accounts (omega (arith, g.within, g.long))))
+        ∙ map_get_or to_account (take n accounts) i d blank (omega (arith, length-take-le n accounts (omega (arith, g.own.within, g.long))))
         ∙ ap to_account (get_or-take n accounts i d h))
 
     pub one_set : in_use (set accounts i y) n ≡ adjust c f (in_use accounts n)
@@ -52,9 +52,8 @@ module _ {numbers : List ℕ} {accounts : List Account} {n : ℕ} (g : Listed nu
     -- the codes are as they were
     pub still_listed : ((x : Rule.Account) → (f x).code ≡ x.code) → Listed numbers (set accounts i y) n
     still_listed k = record {
-      within = g.within;
+      own = record { within = g.own.within; same = g.own.same ∙ sym (codes_adjust c f k (in_use accounts n)) ∙ ap codes (sym one_set) };
       long = simp length-set g.long;
-      same = g.same ∙ sym (codes_adjust c f k (in_use accounts n)) ∙ ap codes (sym one_set);
     }
 
 -- one item more

@@ -1,11 +1,12 @@
 -- What the items of a message make of the accounts in use, one after the other. Assumes nothing.
-use Rattle.std.specs.Prelude.{◌≡◌, List, [], ◌∷◌, ℕ, ℤ, ◌≤◌, Option, Some, None, map, take, length}
+use Rattle.std.specs.Prelude.{◌≡◌, List, [], ◌∷◌, ℕ, ℤ, Option, Some, None, map, take, length}
 use Rattle.rules.specs.Account as Rule
 use Rattle.rules.specs.Account.{Limit, Value, adjust}
 use Rattle.rules.specs.Command.{Header}
 use Rattle.rules.specs.Message.{touch, cleared}
 use Rattle.account.specs.declared.Account.{Account}
 use Rattle.account.specs.View.{to_account}
+use Rattle.table.specs.Promise.{OwnCodes}
 use Rattle.message_items.specs.declared.Item.{Item}
 
 -- what a value sets; an item without one deletes
@@ -17,11 +18,10 @@ setting None = cleared
 abbrev pub in_use : List Account → ℕ → List Rule.Account
 in_use accounts n = map to_account (take n accounts)
 
--- the codes beside the accounts in use are the accounts' own
+-- the fields of a table of which the accounts need not be the rules'
 pub record Listed (codes : List ℕ) (accounts : List Account) (n : ℕ) : Type 0 where
-  pub within : n ≤ 64
+  pub own : OwnCodes codes n (in_use accounts n)
   pub long : length accounts ≡ 64
-  pub same : take n codes ≡ Rule.codes (in_use accounts n)
 
 abbrev pub set_records : Header → List Item → List Rule.Account → List Rule.Account
 set_records h [] xs = xs

@@ -1,7 +1,7 @@
 // The limits that a message names, set by the items of a change or deleted, and the message's moment put on their accounts.
 #![tactic(auto)]
 
-ghost use Rattle.std.specs.Prelude.{◌≡◌, map, take};
+ghost use Rattle.std.specs.Prelude.{◌≡◌};
 ghost use Rattle.rules.specs.Account.{adjust};
 ghost use Rattle.rules.specs.Message as Message;
 ghost use Rattle.command.specs.View.{to_header};

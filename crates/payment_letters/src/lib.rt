@@ -7,47 +7,46 @@ ghost use Rattle.account.specs.View.{to_account};
 ghost use Rattle.account_letters.specs.View.{to_letter};
 ghost use Rattle.payment_letters.specs.Sides.{sides_pass};
 
-use account::Account;
+use account::{Account, Party};
 use account_letters::{Letter, has};
 
-// On the account x of a party or on its bank's, b.
-fn holds(letter: Letter, x: Account, b: Account) -> bool
-    ensures { result ≡ Letters.holds (to_letter letter) (to_account x) (to_account b) }
+// On the account of a party or on its bank's.
+fn holds(letter: Letter, party: Party<Account>) -> bool
+    ensures { result ≡ Letters.holds (to_letter letter) (to_account party.account) (to_account party.bank) }
 {
-    has(x.letters, letter) | has(b.letters, letter)
+    has(party.account.letters, letter) | has(party.bank.letters, letter)
 }
 
-fn may_send(credit: bool, x: Account, b: Account) -> bool
-    ensures { result ≡ Letters.may_send credit (to_account x) (to_account b) }
+fn may_send(credit: bool, party: Party<Account>) -> bool
+    ensures { result ≡ Letters.may_send credit (to_account party.account) (to_account party.bank) }
 {
-    let blocked_a = holds(Letter::A, x, b);
-    let blocked_r = holds(Letter::R, x, b);
-    let blocked_s = holds(Letter::S, x, b);
+    let blocked_a = holds(Letter::A, party);
+    let blocked_r = holds(Letter::R, party);
+    let blocked_s = holds(Letter::S, party);
     (!blocked_a & !blocked_r) & (!credit | !blocked_s)
 }
 
-fn may_receive(central: bool, y: Account, d: Account) -> bool
-    ensures { result ≡ Letters.may_receive central (to_account y) (to_account d) }
+fn may_receive(central: bool, party: Party<Account>) -> bool
+    ensures { result ≡ Letters.may_receive central (to_account party.account) (to_account party.bank) }
 {
-    let blocked_b = holds(Letter::B, y, d);
-    let blocked_n = holds(Letter::N, y, d);
+    let blocked_b = holds(Letter::B, party);
+    let blocked_n = holds(Letter::N, party);
     !blocked_b & (central | !blocked_n)
 }
 
-// x, with its bank b, sends to y, with its bank d.
-fn letters_pass(credit: bool, x: Account, b: Account, y: Account, d: Account) -> bool
-    ensures { result ≡ Letters.letters_pass credit (to_account x) (to_account b) (to_account y) (to_account d) }
+fn letters_pass(credit: bool, sender: Party<Account>, receiver: Party<Account>) -> bool
+    ensures { result ≡ Letters.letters_pass credit (to_account sender.account) (to_account sender.bank) (to_account receiver.account) (to_account receiver.bank) }
 {
-    may_send(credit, x, b) & may_receive(b.marked, y, d)
+    may_send(credit, sender) & may_receive(sender.bank.marked, receiver)
 }
 
-// The same by who pays: in a credit the payer x, with its bank b, sends to the payee y, with its bank d, and in a debit the payee to the payer.
-pub fn sides_pass(credit: bool, x: Account, b: Account, y: Account, d: Account) -> bool
-    ensures { result ≡ sides_pass credit (to_account x) (to_account b) (to_account y) (to_account d) }
+// The same by who pays: in a credit the payer sends to the payee, and in a debit the payee to the payer.
+pub fn sides_pass(credit: bool, payer: Party<Account>, payee: Party<Account>) -> bool
+    ensures { result ≡ sides_pass credit (to_account payer.account) (to_account payer.bank) (to_account payee.account) (to_account payee.bank) }
 {
     if credit {
-        letters_pass(true, x, b, y, d)
+        letters_pass(true, payer, payee)
     } else {
-        letters_pass(false, y, d, x, b)
+        letters_pass(false, payee, payer)
     }
 }

@@ -7,7 +7,7 @@ ghost use Rattle.rules.specs.Invariant.{Sized, limit_ok};
 ghost use Rattle.account.specs.View.{to_account};
 ghost use Rattle.octet_writer.specs.Written.{HasRoom, Moved, Wrote};
 
-use account::Account;
+use account::{Account, Turnover};
 use account_state::state_of;
 use octet_writer::Writer;
 use report_limit::{lpo_status, ltk_status, put_status};
@@ -18,7 +18,7 @@ pub fn put_account(w: &mut Writer, x: Account)
     ensures wrote { Wrote (Report.account_block (to_account x)) w.old w.new }
 {
     let ltk = ltk_status(x.ltk, state_of(x));
-    let lpo = lpo_status(x.lpo, x.turnovers[0]);
+    let lpo = lpo_status(x.lpo, x.turnover(Turnover::Icdt));
     w.put(0u8);
     put_status(w, ltk);
     put_status(w, lpo);

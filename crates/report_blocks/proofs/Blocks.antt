@@ -1,17 +1,17 @@
 -- The blocks of a report: how long they are, one after the other, and the block of the account at a place. Assumes nothing.
 use mathlib.Core.Path.{◌≡◌, refl, sym, ap, ◌∙◌, subst}
-use mathlib.Core.Bool.{true, false, cond}
+use mathlib.Core.Bool.{true, false, cond, ◌||◌}
 use mathlib.Core.List.{List, [], ◌∷◌, ◌++◌, append_assoc, append-nil}
 use Prim.Native.Nat.{ℕ, ◌+◌, ◌*◌, ◌≤◌, ◌<◌}
 use native.Mathlib.Omega.{arith}
-use lib.Dec.{T}
+use lib.Dec.{T, eqb}
 use lib.ListN.{length, get_or, take, length-append, length-take}
 use Rattle.std.proofs.lemmas.List.{take_more}
 use Rattle.octets.specs.Octets.{write}
 use Rattle.rules.specs.Account as Rule
 use Rattle.rules.specs.Account.{known, at}
 use Rattle.rules.specs.Invariant.{All, Sized, Fit}
-use Rattle.rules.specs.Message.{named, may_ask}
+use Rattle.rules.specs.Message.{named, may_ask, owned_by}
 use Rattle.rules.specs.Report.{account_block, block, blocks}
 use Rattle.account.specs.declared.Account.{Account}
 use Rattle.account.specs.View.{to_account}
@@ -20,7 +20,7 @@ use Rattle.table.specs.declared.Table.{Table}
 use Rattle.table.specs.View.{accounts_of, machine_of}
 use Rattle.table.specs.Promise.{Good, FoundAt}
 use Rattle.table.proofs.Called.{every_sized}
-use Rattle.rules.proofs.Lists.{all_at}
+use Rattle.rules.proofs.Lists.{all_at, at_code}
 use Rattle.octet_writer.specs.Written.{Written}
 use Rattle.octet_writer.proofs.Laws.{written_same, written_then}
 use Rattle.report_blocks.specs.Reportable.{Reportable}
@@ -79,3 +79,11 @@ reportable t g = go (accounts_of t) (every_sized t g) g.inv.fit
 pub reportable_at : (t : Table) (c i : ℕ) (d : Account) → Good t → FoundAt t c i → Reportable (to_account (get_or t.accounts i d))
 reportable_at t c i d g f =
     subst Reportable (sym (f.account d)) (all_at c Reportable (accounts_of t) (subst T (sym f.is_known) tt) (reportable t g))
+
+-- who may ask for the account of a code
+pub asked_at : (t : Table) (c i : ℕ) (d : Account) → FoundAt t c i → (s : ℕ)
+    → (eqb s (to_account (get_or t.accounts i d)).code || owned_by s (to_account (get_or t.accounts i d)).owner) ≡ may_ask s c (accounts_of t)
+unfolding may_ask
+asked_at t c i d f s =
+    ap (λ (x : Rule.Account). eqb s x.code || owned_by s x.owner) (f.account d)
+    ∙ ap (λ (k : ℕ). eqb s k || owned_by s (at c (accounts_of t)).owner) (at_code c (accounts_of t) (subst T (sym f.is_known) tt))

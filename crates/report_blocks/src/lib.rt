@@ -12,7 +12,7 @@ use report_account::put_account;
 use table::Table;
 
 // The block of the account of a code, or 23 of one that is not known, or 24 where the sender may not ask for it.
-#[tactic(auto, using(crate::proofs::Blocks::reportable_at), unfolding(rules::specs::Report::block, rules::specs::Message::may_ask))]
+#[tactic(auto, using(crate::proofs::Blocks::reportable_at, crate::proofs::Blocks::asked_at), unfolding(rules::specs::Report::block))]
 fn put_block(w: &mut Writer, t: &Table, sender: u32, code: u32)
     requires { HasRoom 57 w.old }
     ensures moved { MovedAtMost 57 w.old w.new }
@@ -23,8 +23,7 @@ fn put_block(w: &mut Writer, t: &Table, sender: u32, code: u32)
         return;
     };
     let x = t.accounts[place];
-    let may = (sender == code) | x.is_owned_by(sender);
-    if may {
+    if x.may_be_asked_for_by(sender) {
         put_account(w, x);
     } else {
         w.put(24u8);
@@ -39,7 +38,7 @@ pub fn put_report(t: &Table, sender: u32, ids: &[[u8; 10]], out: &mut [u8]) -> u
     let mut w = Writer::new(out);
     w.put(ids.len() as u8);
     for id in ids {
-        put_block(&mut w, t, sender, named(id, 0));
+        put_block(&mut w, t, sender, named(id));
     }
     w.len()
 }

@@ -19,7 +19,8 @@ fn put_letter(w: &mut Writer, letters: u8, letter: Letter)
     }
 }
 
-// The number of the letters that are set, and those letters. They are written apart first, since their number stands before them.
+// The number of the letters that are set, and those letters. They are written apart first, since their number stands before them. The five are named one after the
+// other, as in the rules: a loop over them would want an invariant, and a law that joins it to those five.
 pub fn put_letters(w: &mut Writer, letters: u8)
     requires { HasRoom 6 w.old }
     ensures moved { MovedAtMost 6 w.old w.new }

@@ -1,8 +1,7 @@
 // What the report of a query says of one limit.
 #![tactic(auto)]
 
-ghost use Rattle.std.specs.Prelude.{◌≡◌, true, ◌+◌, ◌≤◌, ◌<◌, ◌^◌, pos, nat_abs, length, T};
-ghost use Rattle.std.specs.Int.Signed.{lt_z};
+ghost use Rattle.std.specs.Prelude.{◌≡◌, ◌≤◌, ◌<◌, ◌^◌, nat_abs, T};
 ghost use Rattle.octet_writer.specs.Written.{HasRoom, Moved, Wrote};
 ghost use Rattle.rules.specs.Account as Rule;
 ghost use Rattle.rules.specs.Report as Report;
@@ -11,7 +10,7 @@ ghost use Rattle.account.specs.View.{to_limit};
 ghost use Rattle.report_limit.specs.Statuses.{to_status};
 
 use account::Limit;
-use amount::{percent, size};
+use amount::percent;
 use octet_writer::Writer;
 
 // What is said of one limit.
@@ -26,6 +25,7 @@ pub enum Status {
 
 // ---- bytes
 
+// The report's own bytes: whether a limit is closed, and whether it is in use.
 const OPEN: u8 = 0;
 
 const CLOSED: u8 = 1;
@@ -80,7 +80,7 @@ fn ltk_value(v: i64, s: i64) -> Status
     }
 }
 
-// LTK at a state.
+// LTK at a state. Beside `lpo_status`, and no function of both: each limit has a rule of its own.
 pub fn ltk_status(l: Limit, s: i64) -> Status
     requires { (T (limit_ok (to_limit l))) × (nat_abs s ≤ 10 ^ 18) }
     ensures { to_status result ≡ Report.ltk_status (to_limit l) s }
@@ -96,7 +96,7 @@ fn lpo_value(v: i64, n: u64) -> Status
     ensures { to_status result ≡ Report.lpo_status (Rule.Value v) n }
 {
     if 0 < v {
-        let used = n.min(size(v)) as i64;
+        let used = n.min(v.unsigned_abs()) as i64;
         busy_status(v, used, v - used)
     } else {
         Status::Idle(v)

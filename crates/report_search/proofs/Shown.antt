@@ -8,7 +8,7 @@ use lib.Dec.{eqb}
 use lib.ListN.{length, get_or, length-append}
 use Rattle.octets.proofs.Numbers.{length_money}
 use Rattle.rules.specs.Account as Rule
-use Rattle.rules.specs.Account.{Turnovers, state, at, blank}
+use Rattle.rules.specs.Account.{Turnovers, at, blank}
 use Rattle.rules.specs.Message.{owned_by, may_ask}
 use Rattle.rules.specs.Invariant.{Sized}
 use Rattle.rules.specs.Letters.{letter_bytes}
@@ -56,15 +56,15 @@ module _ (t : Table) (g : Good t) (long : length t.accounts ≡ 64) (i : ℕ) (d
   own : at (get_or (accounts_of t) i blank).code (accounts_of t) ≡ get_or (accounts_of t) i blank
   unfolding machine_of
   own =
-      all_place (λ x. at x.code (accounts_of t) ≡ x) (accounts_of t) i blank (omega (arith, accounts_length t g.within long))
+      all_place (λ x. at x.code (accounts_of t) ≡ x) (accounts_of t) i blank (omega (arith, accounts_length t g.own.within long))
       (found (accounts_of t) g.inv.table.distinct)
 
-  pub place_block : (sender : ℕ) (owned : Bool) → owned ≡ owned_by sender (to_account (get_or t.accounts i d)).owner
-      → cond (eqb sender (to_account (get_or t.accounts i d)).code || owned) (shown_bytes (to_account (get_or t.accounts i d))) (24 ∷ [])
+  pub place_block : (sender : ℕ) (may : Bool) → may ≡ (eqb sender (to_account (get_or t.accounts i d)).code || owned_by sender (to_account (get_or t.accounts i d)).owner)
+      → cond may (shown_bytes (to_account (get_or t.accounts i d))) (24 ∷ [])
       ≡ found_block sender (accounts_of t) (get_or (accounts_of t) i blank)
   unfolding found_block may_ask
-  place_block sender owned o =
-      let e = accounts_at t g.within long i d blank h in
-      ap (λ (b : Bool). cond (eqb sender (to_account (get_or t.accounts i d)).code || b) (shown_bytes (to_account (get_or t.accounts i d))) (24 ∷ [])) o
+  place_block sender may m =
+      let e = accounts_at t g.own.within long i d blank h in
+      ap (λ (b : Bool). cond b (shown_bytes (to_account (get_or t.accounts i d))) (24 ∷ [])) m
       ∙ ap (λ (x : Rule.Account). cond (eqb sender x.code || owned_by sender x.owner) (shown_bytes x) (24 ∷ [])) (sym e)
       ∙ ap (λ (y : Rule.Account). cond (eqb sender (get_or (accounts_of t) i blank).code || owned_by sender y.owner) (shown_bytes (get_or (accounts_of t) i blank)) (24 ∷ [])) (sym own)

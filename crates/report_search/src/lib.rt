@@ -1,7 +1,7 @@
 // The report of a search: how many accounts were selected, and what is said of each.
 #![tactic(auto)]
 
-ghost use Rattle.std.specs.Prelude.{◌≡◌, cond, [], ◌∷◌, ◌++◌, ◌+◌, ◌^◌, ◌≤◌, ◌<◌, length};
+ghost use Rattle.std.specs.Prelude.{cond, [], ◌∷◌, ◌++◌, ◌+◌, ◌^◌, ◌≤◌, ◌<◌, length};
 ghost use Rattle.std.specs.Int.Count.{ones};
 ghost use Rattle.rules.specs.Search as Search;
 ghost use Rattle.rules.specs.Invariant.{Sized};
@@ -24,10 +24,11 @@ fn put_turnovers(w: &mut Writer, t: [u64; 4])
     ensures moved { Moved 32 w.old w.new }
     ensures wrote { Wrote (Search.turnover_bytes (to_turnovers t)) w.old w.new }
 {
-    w.put(t[0]);
-    w.put(t[1]);
-    w.put(t[2]);
-    w.put(t[3]);
+    let [icdt, rcdt, iddt, rddt] = t;
+    w.put(icdt);
+    w.put(rcdt);
+    w.put(iddt);
+    w.put(rddt);
 }
 
 // 0, id, state, turnovers and the letters on the account itself.
@@ -67,8 +68,7 @@ pub fn put_search(t: &Table, sender: u32, set: u64, out: &mut [u8]) -> usize
     let mut rest = set;
     while rest != 0 {
         let x = t.accounts[first_place(rest)];
-        let may = (sender == x.code) | x.is_owned_by(sender);
-        put_found(&mut w, x, may);
+        put_found(&mut w, x, x.may_be_asked_for_by(sender));
         rest = without_first(rest);
     }
     w.len()

@@ -57,12 +57,12 @@ length_codes (x ∷ xs) = ap suc (length_codes xs)
 
 module _ (t : Table) (g : Good t) (long : length t.codes ≡ 64) where
   pub counted : length (accounts_of t) ≡ t.count
-  counted = omega (arith, length-take-le t.count t.codes (omega (arith, g.within)), ap length g.same, length_codes (accounts_of t))
+  counted = omega (arith, length-take-le t.count t.codes (omega (arith, g.own.within)), ap length g.own.same, length_codes (accounts_of t))
 
   pub table_code : (i : ℕ) (d : Rule.Account) → i < t.count → get_or t.codes i 0 ≡ (get_or (accounts_of t) i d).code
   table_code i d h =
       sym (get_or-take t.count t.codes i 0 h)
-      ∙ ap (λ (l : List ℕ). get_or l i 0) g.same
+      ∙ ap (λ (l : List ℕ). get_or l i 0) g.own.same
       ∙ code_at (accounts_of t) i d (omega (arith, counted))
 
 -- what was found of the id at a place is what selection says of the account there

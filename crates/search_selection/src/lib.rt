@@ -9,22 +9,23 @@ ghost use Rattle.frame_fields.specs.Conditions.{ConditionsFirst, conditions_in};
 ghost use Rattle.search_set.specs.Sets.{set_of};
 ghost use Rattle.table.specs.View.{accounts_of};
 
-use frame_code_writer::put_code;
+use frame_code_writer::code_digits;
 use search_set::with_place;
 use search_text::meets;
 use table::Table;
 
 // The account id of a code.
+#[tactic(auto, unfolding(rules::specs::Message::account_id))]
 pub fn account_id(code: u32) -> [u8; 10]
     ensures { result ≡ account_id code }
 {
     let mut id = *b"1UAH000000";
-    put_code(&mut id, 4, code);
+    id[4..].copy_from_slice(&code_digits(code));
     id
 }
 
 // Whether an id meets at least one of n conditions, which stand one after the other in the bytes. Behind the one at hand `left` are left: the loop counts
-// them for the proof, since a condition has no width that is known before.
+// them for the proof, since a condition has no width that is known before. Bytes and a count, and no `Conditions`: that would ask for 160 bytes.
 pub fn meets_one(b: &[u8], n: usize, id: &[u8]) -> bool
     requires { (ConditionsFirst n b.now) × (length id.now ≡ 10) }
     ensures { result ≡ some? (Search.meets id.now) (conditions_in n b.now) }

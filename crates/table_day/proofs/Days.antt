@@ -6,15 +6,15 @@ use Prim.Native.Nat.{ℕ, zero, suc, ◌+◌, ◌≤◌, ◌<◌, ◌^◌}
 use native.Mathlib.Omega.{arith}
 use native.Mathlib.Numerals.{add-one}
 use borrow.Author.Tests.{lt-ltb}
-use lib.Dec.{T, ltb}
+use lib.Dec.{ltb}
 use lib.ListN.{length, take, drop, get_or, set, length-map, length-append, length-drop}
 use lib.Seq.{take-append_seam}
 use Rattle.rules.specs.Account as Rule
 use Rattle.rules.specs.Account.{codes, blank}
 use Rattle.rules.specs.Command.{Opening, is_day, well_formed}
 use Rattle.rules.specs.Day.{new_day}
-use Rattle.rules.specs.Invariant.{All, Sized, Fit, limit_ok}
-use Rattle.rules.specs.Machine.{Machine, checks, effect, first_failure, answer, with_accounts}
+use Rattle.rules.specs.Invariant.{All, Sized, Fit}
+use Rattle.rules.specs.Machine.{checks, effect, first_failure, answer, with_accounts}
 use Rattle.rules.specs.Message.{keep_from}
 use Rattle.rules.proofs.Ledger.{tame_new_day}
 use Rattle.rules.proofs.Lists.{codes_map}
@@ -87,10 +87,10 @@ unfolding answer call checks well_formed is_day first_failure machine_of
 day_answer t d h = ap (λ b. cond b (cond (ltb t.day d) 0 13) 1) (lt-ltb d (2 ^ 32) h)
 
 as_many : (t : Table) → Good t → length t.accounts ≡ 64 → (items : List Account) → map to_account items ≡ map new_day (accounts_of t) → length items ≡ t.count
-as_many t g long items e = (rw (length-map, length-map) at (ap {B = ℕ} length e)) ∙ accounts_length t g.within long
+as_many t g long items e = (rw (length-map, length-map) at (ap {B = ℕ} length e)) ∙ accounts_length t g.own.within long
 
 pub still_long : (t : Table) → Good t → length t.accounts ≡ 64 → (items : List Account) → map to_account items ≡ map new_day (accounts_of t) → length (items ++ drop t.count t.accounts) ≡ 64
-still_long t g long items e = omega (arith, length-append items (drop t.count t.accounts), length-drop t.count t.accounts, as_many t g long items e, long, g.within)
+still_long t g long items e = omega (arith, length-append items (drop t.count t.accounts), length-drop t.count t.accounts, as_many t g long items e, long, g.own.within)
 
 -- all accounts have had their new day, and the day is another
 pub opened_called : (t : Table) → Good t → length t.accounts ≡ 64 → (items rest : List Account) → map to_account items ≡ map new_day (accounts_of t) → (d : ℕ) → answer (machine_of t) (call (Opening d)) ≡ 0
@@ -100,6 +100,6 @@ opened_called t g long items rest e d z =
     let n : length items ≡ t.count = as_many t g long items e in
     let accounts : map to_account (take t.count (items ++ rest)) ≡ map new_day (accounts_of t) =
     ap (λ n. map to_account (take n (items ++ rest))) (sym n) ∙ ap (map to_account) (take-append_seam items rest) ∙ e in
-    accepted (Opening d) t (record { codes = t.codes; accounts = items ++ rest; count = t.count; day = d }) z g.within
-    (g.same ∙ sym (codes_map new_day tame_new_day.code_kept (accounts_of t)) ∙ ap codes (sym accounts))
+    accepted (Opening d) t (record { codes = t.codes; accounts = items ++ rest; count = t.count; day = d }) z
+    (record { within = g.own.within; same = g.own.same ∙ sym (codes_map new_day tame_new_day.code_kept (accounts_of t)) ∙ ap codes (sym accounts) })
     (ap (λ (xs : List Rule.Account). record { day = d; accounts = xs; ids = [] }) accounts)

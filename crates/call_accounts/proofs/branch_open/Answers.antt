@@ -1,6 +1,4 @@
-use native.Mathlib.Omega.{arith}
-use borrow.Author.Rules.{rules}
-use mathlib.Core.Path.{refl, sym}
+use mathlib.Core.Path.{refl}
 use Rattle.rules.specs.Command.{Branch}
 use Rattle.rules.specs.Machine.{effect}
 use Rattle.account.specs.View.{to_owner}

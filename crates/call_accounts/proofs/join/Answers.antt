@@ -20,7 +20,7 @@ pub invariant_of-t : goal.invariant_of-t
 invariant_of-t c =
     let h = one (goal.at.invariant_of-t c).After-t-1 in
     record {
-      good = record { within = h.within; same = h.same; inv = subst Invariant (sym h.view) ((rw (← c.t.view_is) at c.requires.1) c.t.invariant.good) };
+      good = record { own = h.own; inv = subst Invariant (sym h.view) ((rw (← c.t.view_is) at c.requires.1) c.t.invariant.good) };
       long = simp length-set c.t.invariant.long;
     }
 

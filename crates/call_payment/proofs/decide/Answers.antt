@@ -19,19 +19,19 @@ returns-in_err-parties-clause-says c =
 pub late-requires : goal.late-requires
 late-requires c =
     let q : PartiesAt (table_of c.t.inside) c.args.p c.in_ok-parties.parties = rw (c.in_ok-parties.ensures.parties, ← c.t.view_is) at c.find_parties.ensures in
-    (found_sized _ _ _ _ q.payer_at.own, found_sized _ _ _ _ q.payer_at.bank, found_sized _ _ _ _ q.payee_at.own, found_sized _ _ _ _ q.payee_at.bank, c.amount_of.ensures.1)
+    (found_sized _ _ _ _ q.payer_at.own, found_sized _ _ _ _ q.payer_at.bank, found_sized _ _ _ _ q.payee_at.own, found_sized _ _ _ _ q.payee_at.bank)
 
 pub returns-in_err-late-clause-says : goal.returns-in_err-late-clause-says
 returns-in_err-late-clause-says c =
     let e : answer_of c.from_residual-in_err-late.result ≡ number c.in_err-late.field-0.0 = grind arith in
     let f : SFits w64 c.args.p.amount = search rules in
     rw (← c.t.view_is)
-    (e ∙ (rw (c.is_credit.ensures, c.amount_of.ensures.0, to_z-of_z f) at c.in_err-late.ensures)
+    (e ∙ (rw (c.is_credit.ensures, c.amount_of.ensures, to_z-of_z f) at c.in_err-late.ensures)
     ∙ late_answer (table_of c.t.inside) c.args.p c.find_parties.result (rw (← c.t.view_is) at c.find_parties.ensures) 0 c.in_ok-parties.ensures.says refl c.in_ok-parties.parties (rw (c.in_ok-parties.ensures.parties, ← c.t.view_is) at c.find_parties.ensures) _ _ _ _)
 
 pub returns-clause-says : goal.returns-clause-says
 returns-clause-says c =
     let f : SFits w64 c.args.p.amount = search rules in
     rw (← c.t.view_is)
-    ((rw (c.is_credit.ensures, c.amount_of.ensures.0, to_z-of_z f) at c.in_ok-late.ensures)
+    ((rw (c.is_credit.ensures, c.amount_of.ensures, to_z-of_z f) at c.in_ok-late.ensures)
     ∙ late_answer (table_of c.t.inside) c.args.p c.find_parties.result (rw (← c.t.view_is) at c.find_parties.ensures) 0 c.in_ok-parties.ensures.says refl c.in_ok-parties.parties (rw (c.in_ok-parties.ensures.parties, ← c.t.view_is) at c.find_parties.ensures) _ _ _ _)

@@ -1,5 +1,5 @@
 use mathlib.Core.Path.{sym}
-use lib.ListN.{get_or, set, length-set}
+use lib.ListN.{set, length-set}
 use Rattle.table.specs.Inside.{table_of}
 use Rattle.table.specs.Promise.{Called}
 use Rattle.table.proofs.Stored.{kept}

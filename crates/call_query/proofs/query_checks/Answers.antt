@@ -9,7 +9,6 @@ use Rattle.rules.specs.Machine.{inquiry_checks, checks, answer, first_failure}
 use Rattle.rules.specs.Message.{named}
 use Rattle.rules.proofs.Checks.{early, late}
 use Rattle.refusal.proofs.Numbers.{no_zero}
-use Rattle.command.specs.declared.Header.{Header}
 use Rattle.command.specs.View.{to_header, ids_from}
 use Rattle.command.proofs.Forms.{query_formed, count_most, ids_formed, ids_taken}
 use Rattle.call_query.proofs.Ids.{some_known}
@@ -20,37 +19,36 @@ use Rattle.book.specs.Entries.{book_of}
 use Rattle.ledger.specs.Inside.{ledger_of}
 use Rattle.ledger.specs.View.{view_of, ledger_view, lent}
 use Rattle.ledger.proofs.Laws.{not_full}
-use Rattle.call_query.proofs.query_checks.Goals.{Start, After-header_checks}
+use Rattle.call_query.proofs.query_checks.Goals.{After-header_checks}
 use Rattle.call_query.proofs.query_checks.Goals as goal
-
-fits : (h : Header) (n room : ℕ) → (((is_code h.sender && leb h.second 86399) && is_count n) && leb 913 room) ≡ true → (913 ≤ room) × (n ≤ 16)
-fits h n room e = (leb-true 913 room (both _ _ e).1, count_most h n (both _ _ e).0)
-
-most : (h : Header) (n room : ℕ) → (((is_code h.sender && leb h.second 86399) && is_count n) && leb 913 room) ≡ true → n ≤ 16
-most h n room e = (fits h n room e).1
-
--- some of the first n account ids is known
-found : (s : Start) → s.args.n ≤ 16 → some? (λ i. known (named i) (accounts_of s.args.l.now.table)) (ids_from 0 s.args.n s.args.ids)
-    ≡ list_any (λ i. known (named (part 0 10 i)) (accounts_of s.args.l.now.table)) (take s.args.n s.args.ids)
-found s m =
-    let long : length s.args.ids ≡ 16 = search rules in
-    let t = ids_taken s.args.n s.args.ids (omega arith) in
-    let f : every (is_bytes 10) (ids_from 0 s.args.n s.args.ids) ≡ true = search (rules, ids_formed) in
-    ap (some? (λ i. known (named i) (accounts_of s.args.l.now.table))) t
-    ∙ sym (some_known (accounts_of s.args.l.now.table) (take s.args.n s.args.ids) (sym (ap (every (is_bytes 10)) t) ∙ f))
 
 -- the checks, as the code makes them
 abbrev all : After-header_checks → List (ℕ × Bool)
 all s =
-    inquiry_checks (ledger_view s.args.l.now) (to_header s.args.header) ((s.is_header.result && s.is_count.result) && leb 913 s.args.room) (some? (λ i. known (named i) (accounts_of s.args.l.now.table)) (ids_from 0 s.args.n s.args.ids))
+    inquiry_checks (ledger_view s.args.l.now) (to_header s.args.header) ((s.is_header.result && s.is_count.result) && leb 913 s.args.room) (some? (λ i. known (named i) (accounts_of s.args.l.now.table)) (ids_from 0 s.args.ids.count s.args.ids.rows))
 
-right : (s : After-header_checks) → first_failure (all s) ≡ answer (ledger_view s.args.l.now) (lent s.args.room (Query (to_header s.args.header) (ids_from 0 s.args.n s.args.ids)))
+right : (s : After-header_checks) → first_failure (all s) ≡ answer (ledger_view s.args.l.now) (lent s.args.room (Query (to_header s.args.header) (ids_from 0 s.args.ids.count s.args.ids.rows)))
 unfolding is_count answer checks ledger_view view_of
 right s =
-    let long : length s.args.ids ≡ 16 = search rules in
-    let formed : well_formed (Query (to_header s.args.header) (ids_from 0 s.args.n s.args.ids))
-    ≡ ((is_code s.args.header.sender && leb s.args.header.second 86399) && is_count s.args.n) = search (rules, query_formed) in
+    let long : length s.args.ids.rows ≡ 16 = search rules in
+    let formed : well_formed (Query (to_header s.args.header) (ids_from 0 s.args.ids.count s.args.ids.rows))
+    ≡ ((is_code s.args.header.sender && leb s.args.header.second 86399) && is_count s.args.ids.count) = search (rules, query_formed) in
     rw (s.is_header.ensures, s.is_count.ensures, formed)
+
+-- the form of a query that has passed the header's checks
+fits : (s : After-header_checks) → ((s.is_header.result && s.is_count.result) && leb 913 s.args.room) ≡ true → (913 ≤ s.args.room) × (s.args.ids.count ≤ 16)
+unfolding is_count
+fits s e = let f = rw (s.is_header.ensures, s.is_count.ensures) at e in (leb-true 913 s.args.room (both _ _ f).1, count_most s.args.header s.args.ids.count (both _ _ f).0)
+
+-- some of the first n account ids is known
+found : (s : After-header_checks) → s.args.ids.count ≤ 16 → some? (λ i. known (named i) (accounts_of s.args.l.now.table)) (ids_from 0 s.args.ids.count s.args.ids.rows)
+    ≡ list_any (λ i. known (named (part 0 10 i)) (accounts_of s.args.l.now.table)) (take s.args.ids.count s.args.ids.rows)
+found s m =
+    let long : length s.args.ids.rows ≡ 16 = search rules in
+    let t = ids_taken s.args.ids.count s.args.ids.rows (omega arith) in
+    let f : every (is_bytes 10) (ids_from 0 s.args.ids.count s.args.ids.rows) ≡ true = search (rules, ids_formed) in
+    ap (some? (λ i. known (named i) (accounts_of s.args.l.now.table))) t
+    ∙ sym (some_known (accounts_of s.args.l.now.table) (take s.args.ids.count s.args.ids.rows) (sym (ap (every (is_bytes 10)) t) ∙ f))
 
 pub returns-in_err-header_checks-clause-says : goal.returns-in_err-header_checks-clause-says
 unfolding ledger_view view_of to_header book_of
@@ -58,30 +56,27 @@ returns-in_err-header_checks-clause-says c =
     let s = (goal.at.returns-in_err-header_checks-clause-says c).After-header_checks in
     (grind arith) ∙ early 5 (all s) _ c.in_err-header_checks.ensures.says (no_zero c.in_err-header_checks.field-0.0) ∙ right s
 
-pub slice_bounds-ids-end : goal.slice_bounds-ids-end
-unfolding is_count
-slice_bounds-ids-end c =
-    let long : length c.args.ids ≡ 16 = search rules in
-    omega (arith, long, most c.args.header c.args.n c.args.room (rw (c.is_header.ensures, c.is_count.ensures) at c.in_ok-header_checks.ensures.formed))
+pub shared_ref_as_front-any_known : goal.shared_ref_as_front-any_known
+shared_ref_as_front-any_known c =
+    (fits (goal.at.shared_ref_as_front-any_known c).After-header_checks c.in_ok-header_checks.ensures.formed).1
 
 pub returns-in_err-check-clause-says : goal.returns-in_err-check-clause-says
-unfolding is_count first_failure ledger_view view_of to_header book_of
+unfolding first_failure ledger_view view_of to_header book_of
 returns-in_err-check-clause-says c =
     let s = (goal.at.returns-in_err-check-clause-says c).After-header_checks in
-    let f = found (goal.at.returns-in_err-check-clause-says c).Start (most c.args.header c.args.n c.args.room (rw (c.is_header.ensures, c.is_count.ensures) at c.in_ok-header_checks.ensures.formed)) in
     let t = late 5 (all s) tt (sym c.in_ok-header_checks.ensures.says) ∙ right s in
+    let f = found s (fits s c.in_ok-header_checks.ensures.formed).1 in
     rw (← c.l.view_is) ((grind arith) ∙ rw (f, ← c.l.view_is, ← c.any_known.ensures, c.in_err-check.ensures.0) at t)
 
 pub returns-clause-says : goal.returns-clause-says
-unfolding is_count first_failure ledger_view view_of to_header book_of
+unfolding first_failure ledger_view view_of to_header book_of
 returns-clause-says c =
     let s = (goal.at.returns-clause-says c).After-header_checks in
-    let f = found (goal.at.returns-clause-says c).Start (most c.args.header c.args.n c.args.room (rw (c.is_header.ensures, c.is_count.ensures) at c.in_ok-header_checks.ensures.formed)) in
     let t = late 5 (all s) tt (sym c.in_ok-header_checks.ensures.says) ∙ right s in
+    let f = found s (fits s c.in_ok-header_checks.ensures.formed).1 in
     rw (← c.l.view_is) ((grind arith) ∙ rw (f, ← c.l.view_is, ← c.any_known.ensures, c.in_ok-check.ensures, ← not_full (ledger_of c.l.inside)) at t)
 
 pub returns-clause-ready : goal.returns-clause-ready
-unfolding is_count
 returns-clause-ready c =
-    let f = fits c.args.header c.args.n c.args.room (rw (c.is_header.ensures, c.is_count.ensures) at c.in_ok-header_checks.ensures.formed) in
+    let f = fits (goal.at.returns-clause-ready c).After-header_checks c.in_ok-header_checks.ensures.formed in
     search (rules, leb-false, not-true)

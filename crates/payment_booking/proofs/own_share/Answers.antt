@@ -7,4 +7,4 @@ returns-then-is_bank c = rw (← c.is_bank.ensures, c.if-is_bank.true)
 
 pub returns-else-is_bank : goal.returns-else-is_bank
 unfolding share
-returns-else-is_bank c = rw (← c.is_bank.ensures, c.if-is_bank.false)
+returns-else-is_bank c = rw (← c.is_bank.ensures, c.if-is_bank.false, ← c.n.view_is)

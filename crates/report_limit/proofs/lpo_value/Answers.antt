@@ -13,7 +13,7 @@ unfolding Report.lpo_status
 returns-then-v-gt0 c =
     let g = to_z-of_z c.ranges.v in
     let t = rw g at c.if-v-gt0.true in
-    let e = rw (c.size.ensures, g) at c.min-used.ensures in
+    let e = rw (c.unsigned_abs.ensures.value, g) at c.min-used.ensures in
     let f = left_fits c.args.v (Report.lpo_used c.args.v c.args.n) c.requires (lpo_used_small c.args.v c.args.n) in
     let u = low_to_z (omega (arith, e, c.requires)) ∙ ap pos e ∙ smaller_is c.args.v c.args.n t in
     rw t (rw (g, u, to_z-of_z f) at c.busy_status.ensures)

@@ -18,7 +18,6 @@ use Rattle.octet_writer.specs.Written.{Written}
 use Rattle.octet_writer.proofs.Laws.{written_then}
 use Rattle.report_search.proofs.Shown.{place_sized, place_block}
 use Rattle.report_search.proofs.Walked.{walked_none, walked_room, walked_more, walked_all}
-use Rattle.report_search.proofs.put_search.Goals.{Start, In-loop-rest}
 use Rattle.report_search.proofs.put_search.Goals as goal
 
 -- the table's length, in the terms of its list
@@ -26,7 +25,7 @@ count : (t : Table) → Good t → length t.codes ≡ 64 → length (accounts_of
 count t g long = counted t g long
 
 few : (t : Table) → Good t → length t.codes ≡ 64 → length (accounts_of t) ≤ 64
-few t g long = omega (arith, count t g long, g.within)
+few t g long = omega (arith, count t g long, g.own.within)
 
 positive : (n : ℕ) → (n ≡ 0 → ⊥) → 0 < n
 positive n h = omega arith
@@ -47,7 +46,7 @@ pub bounds-t-inside-first_place : goal.bounds-t-inside-first_place
 bounds-t-inside-first_place c =
     let codes : length c.t.inside.codes ≡ 64 = search rules in
     let b = inside (table_of c.t.inside) c.t.invariant.good codes c.loop-rest.rest c.loop-rest-test.true c.loop-rest.invariant.1.below in
-    omega (arith, b, c.first_place.ensures, c.t.invariant.good.within)
+    omega (arith, b, c.first_place.ensures, c.t.invariant.good.own.within)
 
 pub put_found-requires : goal.put_found-requires
 put_found-requires c =
@@ -69,7 +68,7 @@ loop-rest-preserved c =
     let xs = accounts_of t in
     let b = inside t g codes c.loop-rest.rest c.loop-rest-test.true c.loop-rest.invariant.1.below in
     let h : c.first_place.result < c.t.inside.count = omega (arith, b, c.first_place.ensures) in
-    let e = place_block t g c.t.invariant.long c.first_place.result _ h c.args.sender _ c.is_owned_by.ensures ∙ ap (λ (i : ℕ). found_block c.args.sender xs (get_or xs i blank)) c.first_place.ensures in (
+    let e = place_block t g c.t.invariant.long c.first_place.result _ h c.args.sender _ c.may_be_asked_for_by.ensures ∙ ap (λ (i : ℕ). found_block c.args.sender xs (get_or xs i blank)) c.first_place.ensures in (
       search rules,
       rw c.without_first-rest.ensures
           (walked_more c.args.sender xs (few t g codes) c.args.set _ c.loop-rest.rest _ c.loop-rest.w.at c.loop-rest.invariant.1 blank _ _ (positive c.loop-rest.rest c.loop-rest-test.true)

@@ -31,7 +31,7 @@ pub with_place-set-requires : goal.with_place-set-requires
 with_place-set-requires c =
     let long : length c.t.inside.codes ≡ 64 = search rules in
     let n = counted (table_of c.t.inside) c.t.invariant.good long in
-    (omega (arith, c.t.invariant.good.within), rw c.loop-i.invariant (marked_below (selects (conditions_in c.args.n c.args.b.now)) (accounts_of (table_of c.t.inside)) c.loop-i.i (omega arith)))
+    (omega (arith, c.t.invariant.good.own.within), rw c.loop-i.invariant (marked_below (selects (conditions_in c.args.n c.args.b.now)) (accounts_of (table_of c.t.inside)) c.loop-i.i (omega arith)))
 
 pub loop-i-preserved : goal.loop-i-preserved
 loop-i-preserved c =

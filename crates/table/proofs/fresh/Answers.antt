@@ -17,12 +17,12 @@ map-replicate f a (suc n) = ap (λ l. f a ∷ l) (map-replicate f a n)
 
 pub invariant_of-result : goal.invariant_of-result
 unfolding machine_of accounts_of empty codes
-invariant_of-result c = record { good = record { within = omega arith; same = refl; inv = start_inv }; long = refl }
+invariant_of-result c = record { good = record { own = record { within = omega arith; same = refl }; inv = start_inv }; long = refl }
 
 pub returns : goal.returns
 unfolding machine_of accounts_of empty codes to_owner
 returns c = (
-  record { within = omega arith; same = refl; inv = start_inv },
+  record { own = record { within = omega arith; same = refl }; inv = start_inv },
   refl,
   record {
     codes_are = refl;

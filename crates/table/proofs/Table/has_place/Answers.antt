@@ -7,4 +7,4 @@ use Rattle.table.proofs.Table.has_place.Goals as goal
 
 pub returns-clause-says : goal.returns-clause-says
 unfolding machine_of has_place
-returns-clause-says c = rw (← c.self.view_is) (ap (λ n. ltb n 64) (sym (accounts_length _ c.self.invariant.good.within c.self.invariant.long)))
+returns-clause-says c = rw (← c.self.view_is) (ap (λ n. ltb n 64) (sym (accounts_length _ c.self.invariant.good.own.within c.self.invariant.long)))
