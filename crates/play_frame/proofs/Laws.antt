@@ -1,42 +1,35 @@
--- A call's promise as that of the bytes that hold its command. Assumes nothing.
-use mathlib.Core.Path.{◌≡◌, sym, subst}
+-- A call's promise as that of the command that it plays. Assumes nothing.
+use mathlib.Core.Path.{◌≡◌}
 use mathlib.Core.List.{List, [], ◌∷◌}
 use Prim.Native.Nat.{ℕ}
-use Rattle.std.specs.Prelude.{Result}
 use lib.Dec.{T}
 use Rattle.rules.specs.Command.{Command}
-use Rattle.refusal.specs.declared.Refusal.{Refusal}
-use Rattle.refusal.specs.Answer.{answer_of}
 use Rattle.table.specs.declared.Table.{Table}
-use Rattle.table.specs.Promise.{Called, Calls}
-use Rattle.ledger.specs.declared.Ledger.{Ledger}
-use Rattle.ledger.specs.Promise.{SoundLedger, Played, Settles, Reports, length_of}
-use Rattle.ledger.specs.Calls.{plain, silent}
-use Rattle.ledger.proofs.Laws.{settled_table, played_silent, played_none}
+use Rattle.table.specs.Promise.{Called}
+use Rattle.ledger.specs.Promise.{Sound, Settled, Played}
+use Rattle.ledger.specs.Calls.{Reach, OnTable, OnBook, OnReport, reach, table_alone, no_report, plain, silent}
+use Rattle.ledger.proofs.Laws.{settled_table, played_silent}
 
--- a call on the table alone leaves a sound record
-pub sound_after : {k : Command} {l : Ledger} {a : ℕ} {t : Table} → SoundLedger l → T (plain k) → Called k l.table (record { answer = a; table = t }) → SoundLedger (record { table = t; book = l.book })
-sound_after {k = k} {l = l} g p c = (settled_table k l.table l.book.ids l.book.days l.book.used _ p c).sound g
+-- a kind that looks at the table alone has no report
+plain_silent : (k : Command) → T (plain k) → T (silent k)
+plain_silent k = go (reach k)
+  where
+    go : (r : Reach) → T (table_alone r) → T (no_report r)
+    go OnTable p = p
+    go OnBook p = absurd p
+    go OnReport p = absurd p
 
--- of the commands cs that the bytes hold, and the result s
-module _ (cs : List Command) (l : Ledger) (report : List ℕ) (s : Result ℕ Refusal) where
-  pub by_none : cs ≡ [] → answer_of s ≡ 1 → length_of s ≡ 0 → Reports cs l report s l report
-  by_none e a z =
-      rw (a, z)
-      (subst (λ ks. Played ks l.table l.book.ids l.book.days l.book.used report (record { answer = 1; table = l.table; used = l.book.used; report_len = 0 }) l.book.ids l.book.days report) (sym e)
-      (played_none l.table l.book.ids l.book.days l.book.used report))
+-- k is played by a call that answers a, what comes back answers b, and has a report of the length n
+module _ {k : Command} {t u : Table} {ids days : List ℕ} {used a : ℕ} where
+  -- a call on table and book
+  pub by_book : {used' b n : ℕ} {ids' days' report : List ℕ} → T (silent k) → Settled k t ids days used (record { answer = a; table = u; used = used' }) ids' days' → (b ≡ a) × (n ≡ 0)
+      → Played (k ∷ []) t ids days used report (record { answer = b; table = u; used = used'; report_len = n }) ids' days' report
+  by_book {ids' = ids'} {days' = days'} {report = report} q p e = rw (e.0, e.1) (played_silent k t ids days used report _ ids' days' q p)
 
-  pub by_book : {X : Type 0} (k : Command) (r : Result X Refusal) (u : Ledger) → cs ≡ k ∷ [] → T (silent k) → Settles k l r u → answer_of s ≡ answer_of r → length_of s ≡ 0
-      → Reports cs l report s u report
-  by_book k r u e q p a z =
-      rw (a, z)
-      (subst (λ ks. Played ks l.table l.book.ids l.book.days l.book.used report (record { answer = answer_of r; table = u.table; used = u.book.used; report_len = 0 }) u.book.ids u.book.days report) (sym e)
-      (played_silent k l.table l.book.ids l.book.days l.book.used report _ u.book.ids u.book.days q p))
+  -- a call on the table alone
+  pub by_table : {b n : ℕ} {report : List ℕ} → T (plain k) → Called k t (record { answer = a; table = u }) → (b ≡ a) × (n ≡ 0)
+      → Played (k ∷ []) t ids days used report (record { answer = b; table = u; used = used; report_len = n }) ids days report
+  by_table q c = by_book (plain_silent k q) (settled_table k t ids days used _ q c)
 
-  pub by_table : {X : Type 0} (k : Command) (r : Result X Refusal) (t : Table) → cs ≡ k ∷ [] → T (silent k) → T (plain k) → Calls k l.table r t
-      → answer_of s ≡ answer_of r → length_of s ≡ 0 → Reports cs l report s (record { table = t; book = l.book }) report
-  by_table k r t e q p c = by_book k r (record { table = t; book = l.book }) e q (settled_table k l.table l.book.ids l.book.days l.book.used _ p c)
-
-  -- a query or a search
-  pub by_report : (k : Command) (u : Ledger) (report' : List ℕ) → cs ≡ k ∷ [] → Reports (k ∷ []) l report s u report' → Reports cs l report s u report'
-  by_report k u report' e p = subst (λ ks. Reports ks l report s u report') (sym e) p
+  pub sound_after : T (plain k) → Called k t (record { answer = a; table = u }) → Sound t ids days used → Sound u ids days used
+  sound_after q c = (settled_table k t ids days used _ q c).sound

@@ -9,6 +9,7 @@ use lib.ListN.{length, take, drop, length-append}
 use lib.Seq.{length-take-le}
 use Rattle.octets.specs.Octets.{write}
 use Rattle.octets.proofs.Places.{write_then, write_length}
+use Rattle.octet_writer.specs.Written.{Written}
 use Rattle.rules.specs.Machine.{Machine, Outcome}
 use Rattle.frame.specs.Frame.{commands_of, line_frame}
 use Rattle.table.specs.declared.Table.{Table}
@@ -96,7 +97,7 @@ module _ (m : Machine) {ids₀ days₀ : List ℕ} (input out : List ℕ) (t : T
 
   pub turn : (l ids' days' report report' out'' : List ℕ) (r : Stepped) (w : ℕ) → l ≡ take (e - read) (drop read input) → length report ≡ report_room
       → Played (commands_of (line_frame l)) t ids days used report r ids' days' report'
-      → (out'' ≡ write out' written (printed r.answer (take r.report_len report'))) × (w ≡ written + (2 * r.report_len + 3))
+      → Written out' written (printed r.answer (take r.report_len report')) out'' w
       → Passed m ids₀ days₀ input out r.table ids' days' r.used (e + 1) w out''
   turn l ids' days' report report' out'' r w is room s o =
       let ls = p.lines in
@@ -117,14 +118,14 @@ module _ (m : Machine) {ids₀ days₀ : List ℕ} (input out : List ℕ) (t : T
         chosen =
             p.chosen
             ∙ ap (λ more. ls ++ more) (fitting_more (view_of t ids days used) (length out - written) (whole_lines (drop read input)) l (whole_lines (drop (e + 1) input)) (rw is (next_line input read e q h)) (n.found h).1
-            (line_outcome_lem t ids days used l report r ids' days' report' s (view_of t ids days used) refl room) (line_next_lem t ids days used l report r ids' days' report' s (view_of t ids days used) refl room) (length out - w) (omega (arith, size, o.1)))
+            (line_outcome_lem t ids days used l report r ids' days' report' s (view_of t ids days used) refl room) (line_next_lem t ids days used l report r ids' days' report' s (view_of t ids days used) refl room) (length out - w) (omega (arith, size, o.behind)))
             ∙ sym (append_assoc ls (l ∷ []) (fitting (view_of r.table ids' days' r.used) (length out - w) (whole_lines (drop (e + 1) input))));
         state = line_next_lem t ids days used l report r ids' days' report' s (played m ls) p.state room ∙ sym (played_snoc m ls l);
         ids_are = more_over book_ids m ls l ids₀ p.ids_are machine book.ids_are;
         days_are = more_over book_days m ls l days₀ p.days_are machine book.days_are;
-        room = omega (arith, fits, s.fits, o.1);
-        bytes = rw (o.0, p.bytes, all) (write_then out 0 (printed_lines m ls) line written (omega (arith, p.long)));
-        long = ap length all ∙ length-append (printed_lines m ls) line ∙ omega (arith, p.long, size, o.1);
+        room = omega (arith, fits, s.fits, size, o.behind);
+        bytes = rw (o.bytes, p.bytes, all) (write_then out 0 (printed_lines m ls) line written (omega (arith, p.long)));
+        long = ap length all ∙ length-append (printed_lines m ls) line ∙ omega (arith, p.long, o.behind);
       }
 
 -- once no whole line or no room is left, the lines played are all that fit

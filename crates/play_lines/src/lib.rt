@@ -1,17 +1,18 @@
 // A chunk of lines, played on the record that is lent.
 #![tactic(auto)]
 
-ghost use Rattle.std.specs.Prelude.{◌≡◌, ◌+◌, ◌*◌, ◌≤◌, ◌<◌, length, take};
-ghost use Rattle.octets.specs.Octets.{write};
+ghost use Rattle.std.specs.Prelude.{◌+◌, ◌*◌, ◌≤◌, ◌<◌, length, take};
+ghost use Rattle.octet_writer.specs.Written.{HasRoom, Moved, Wrote};
 ghost use Rattle.refusal.specs.Answer.{answer_of};
 ghost use Rattle.frame.specs.Frame.{commands_of, line_frame};
 ghost use Rattle.ledger.specs.Promise.{Reports, length_of};
 ghost use Rattle.lines.specs.Text.{printed};
 ghost use Rattle.play_lines.specs.Run.{RunIs};
 
-use frame_reader::{DigitTable, digit_values, unpack_frame};
+use frame_reader::unpack_frame;
 use ledger::Ledger;
 use lines::{REPORT_ROOM, next_end, write_line};
+use octet_writer::Writer;
 use play_frame::play;
 use refusal::Refusal;
 
@@ -27,27 +28,26 @@ fn play_line(
     l: &mut Ledger,
     line: &[u8],
     frame: &mut [u8],
-    table: &DigitTable,
     report: &mut [u8],
 ) -> Result<usize, Refusal>
     requires { 352 ≤ length frame.old }
     ensures { Reports (commands_of (line_frame line.now)) l.old report.old result l.new report.new }
 {
-    let n = unpack_frame(line, frame, table).ok_or(Refusal::IllFormed)?;
+    let n = unpack_frame(line, frame).ok_or(Refusal::IllFormed)?;
     play(l, &frame[..n], report)
 }
 
-// Writes the answer line of what a frame was answered from `at` on, and gives the place behind it.
-fn write_answer(out: &mut [u8], at: usize, played: Result<usize, Refusal>, report: &[u8]) -> usize
-    requires room { at + (2 * length_of played + 3) ≤ length out.old }
+// Writes the answer line of what a frame was answered.
+fn write_answer(w: &mut Writer, played: Result<usize, Refusal>, report: &[u8])
+    requires room { HasRoom (2 * length_of played + 3) w.old }
     requires answer { answer_of played < 100 }
     requires report { length_of played ≤ length report.now }
-    ensures line { out.new ≡ write out.old at (printed (answer_of played) (take (length_of played) report.now)) }
-    ensures end { result ≡ at + (2 * length_of played + 3) }
+    ensures moved { Moved (2 * length_of played + 3) w.old w.new }
+    ensures wrote { Wrote (printed (answer_of played) (take (length_of played) report.now)) w.old w.new }
 {
     match played {
-        Ok(length) => write_line(out, at, 0, &report[..length]),
-        Err(refusal) => write_line(out, at, u64::from(refusal.number()), &[]),
+        Ok(length) => write_line(w, 0, &report[..length]),
+        Err(refusal) => write_line(w, u64::from(refusal.number()), &[]),
     }
 }
 
@@ -57,16 +57,19 @@ pub fn play_lines(l: &mut Ledger, lines: &[u8], out: &mut [u8]) -> Extent
     ensures { RunIs l.old lines.now out.old result l.new out.new }
 {
     let _ = &l.table;
-    let table = digit_values();
     let mut frame = [0u8; 352];
     let mut report = [0u8; REPORT_ROOM];
     let mut read: usize = 0;
-    let mut written: usize = 0;
-    while let Some(end) = next_end(lines, read, out.len() - written) {
+    let room = out.len();
+    let mut w = Writer::new(out);
+    while let Some(end) = next_end(lines, read, room - w.len()) {
         let line = &lines[read..end];
-        let played = play_line(l, line, &mut frame, &table, &mut report);
-        written = write_answer(out, written, played, &report);
+        let played = play_line(l, line, &mut frame, &mut report);
+        write_answer(&mut w, played, &report);
         read = end + 1;
     }
-    Extent { read, written }
+    Extent {
+        read,
+        written: w.len(),
+    }
 }

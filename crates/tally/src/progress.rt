@@ -14,10 +14,14 @@ use std::process::ExitCode;
 use tally_feed::{Counts, feed};
 use tally_kept::end_line;
 
-// What is said on standard error where the program ends before its input does.
-const UNREAD: &[u8] = b"tally: standard input cannot be read\n";
-
-const UNWRITTEN: &[u8] = b"tally: standard output cannot be written\n";
+// Why the program ends before its input does.
+#[derive(Debug, thiserror::Error, Drop)]
+enum Failure {
+    #[error("standard input cannot be read")]
+    Unread,
+    #[error("standard output cannot be written")]
+    Unwritten,
+}
 
 // How far the program is: it reads; the input has ended, and lines of it may be left; all of them are answered; a read or a write failed, with whether the input had
 // ended before.
@@ -102,10 +106,10 @@ impl Progress {
     }
 
     // Where a read or a write failed, that is said, and it is over.
-    fn stop(&mut self, rt: &HostRuntime, message: &[u8])
+    fn stop(&mut self, rt: &HostRuntime, failure: Failure)
         ensures { (progress_of self.new ≡ broken (progress_of self.old)) × (self.new.ledger ≡ self.old.ledger) }
     {
-        let _ = rt.stderr().write_all(message);
+        let _ = eprintln!(rt; "tally: {failure}");
         self.n = 0;
         self.stage = self.stage.broken();
     }
@@ -119,7 +123,7 @@ impl Progress {
         let waiting = self.counts.waiting;
         match write_answers(output, self, &out[..waiting]) {
             Ok(()) => self.counts.waiting = 0,
-            Err(_) => self.stop(rt, UNWRITTEN),
+            Err(_) => self.stop(rt, Failure::Unwritten),
         }
     }
 
@@ -140,7 +144,7 @@ impl Progress {
         ensures same { self.new.ledger ≡ self.old.ledger }
     {
         if self.reads == 0 {
-            return self.stop(rt, UNREAD);
+            return self.stop(rt, Failure::Unread);
         }
         let left = self.counts.left;
         match input.read(&mut buf[left..]) {
@@ -149,7 +153,7 @@ impl Progress {
                 self.take(end, Stage::Ending)
             }
             Ok(n) => self.take(n, Stage::Reading),
-            Err(_) => self.stop(rt, UNREAD),
+            Err(_) => self.stop(rt, Failure::Unread),
         }
     }
 

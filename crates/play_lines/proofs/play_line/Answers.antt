@@ -6,7 +6,7 @@ use Rattle.frame.specs.Frame.{commands_of, is_frame, layout, line_frame}
 use Rattle.command.proofs.ByKind.{frame_none}
 use Rattle.refusal.specs.Answer.{answer_of}
 use Rattle.ledger.specs.Promise.{length_of}
-use Rattle.play_frame.proofs.Laws.{by_none}
+use Rattle.ledger.proofs.Laws.{played_none}
 use Rattle.play_lines.proofs.play_line.Goals as goal
 
 pub returns-in_err-n : goal.returns-in_err-n
@@ -16,4 +16,4 @@ returns-in_err-n c =
     let e : commands_of (line_frame c.args.line.now) ≡ [] = ap commands_of none ∙ frame_none [] refl in
     let a : answer_of c.from_residual.result ≡ 1 = grind arith in
     let z : length_of c.from_residual.result ≡ 0 = grind arith in
-    by_none (commands_of (line_frame c.args.line.now)) c.args.l.now c.args.report.now c.from_residual.result e a z
+    rw (a, z, e) (played_none _ _ _ _ _)

@@ -9,24 +9,25 @@ use Rattle.ledger.specs.Promise.{SoundLedger}
 use Rattle.ledger.specs.View.{ledger_view}
 use Rattle.lines.specs.Text.{answer_room}
 use Rattle.lines.proofs.Next.{NextIs, next_is}
+use Rattle.play_lines.specs.Run.{RunIs}
 use Rattle.play_lines.proofs.Laws.{forward, fits, same_report, begin, turn, all_chosen}
 use Rattle.play_lines.proofs.play_lines.Goals.{In-Some}
 use Rattle.play_lines.proofs.play_lines.Goals as goal
 
 -- in a turn: the next line's end is at or behind its start, and there is room
-next : (c : In-Some) → NextIs c.args.lines.now c.loop-end.read (length c.args.out.now - c.loop-end.written) c.in-Some.end
-next c = rw c.loop-end.invariant.1 at (next_is _ _ _ _ c.loop-end.invariant.0.within c.in-Some.ensures.0)
+next : (c : In-Some) → NextIs c.args.lines.now c.loop-end.read (length c.new-w.result.out.now - c.loop-end.w.at) c.in-Some.end
+next c = rw (c.len.ensures, ← c.new-w.ensures.1) at (next_is _ _ _ _ c.loop-end.invariant.0.within c.in-Some.ensures.0)
 
 ahead : (c : In-Some) → c.loop-end.read ≤ c.in-Some.end
 ahead c = forward _ _ _ _ _ _ _ _ _ _ _ c.loop-end.invariant.0 (next c) c.in-Some.ensures.1
 
-roomy : (c : In-Some) → c.loop-end.written + answer_room ≤ length c.loop-end.out
-roomy c = omega (arith, fits _ _ _ _ _ _ _ _ _ _ _ c.loop-end.invariant.0 (next c) c.in-Some.ensures.1, c.loop-end.invariant.1)
+roomy : (c : In-Some) → c.loop-end.w.at + answer_room ≤ length c.loop-end.w.out.now
+roomy c = omega (arith, fits _ _ _ _ _ _ _ _ _ _ _ c.loop-end.invariant.0 (next c) c.in-Some.ensures.1, c.loop-end.invariant.1.1)
 
 pub loop-end-init : goal.loop-end-init
 unfolding ledger_view
 loop-end-init c =
-    (begin c.args.lines.now c.args.out.now _ _ _ _ (subst SoundLedger c.l.view_is c.l.invariant), refl, search rules, search rules)
+    (rw c.new-w.ensures.2 (begin c.args.lines.now c.new-w.result.out.now _ _ _ _ (subst SoundLedger c.l.view_is c.l.invariant)), (refl, refl), refl, refl)
 
 pub slice_bounds-line-count : goal.slice_bounds-line-count
 slice_bounds-line-count c = ahead (goal.at.slice_bounds-line-count c).In-Some
@@ -34,17 +35,17 @@ slice_bounds-line-count c = ahead (goal.at.slice_bounds-line-count c).In-Some
 pub slice_bounds-line-start : goal.slice_bounds-line-start
 slice_bounds-line-start c = ahead (goal.at.slice_bounds-line-start c).In-Some
 
-pub write_answer-written-requires-clause-room : goal.write_answer-written-requires-clause-room
-write_answer-written-requires-clause-room c =
-    omega (arith, roomy (goal.at.write_answer-written-requires-clause-room c).In-Some, c.play_line-played.ensures.fits, same_report _ _ _ _ _ _ _ _ _ _ c.play_line-played.ensures, c.loop-end.invariant.2)
+pub write_answer-requires-clause-room : goal.write_answer-requires-clause-room
+write_answer-requires-clause-room c =
+    omega (arith, roomy (goal.at.write_answer-requires-clause-room c).In-Some, c.play_line-played.ensures.fits, same_report _ _ _ _ _ _ _ _ _ _ c.play_line-played.ensures, c.loop-end.invariant.2)
 
 pub loop-end-preserved : goal.loop-end-preserved
 unfolding ledger_view
 loop-end-preserved c =
     let s = c.play_line-played.ensures in
     let n = next (goal.at.loop-end-preserved c).In-Some in (
-      turn _ _ _ _ _ _ _ _ _ _ _ c.loop-end.invariant.0 n c.in-Some.ensures.1 _ _ _ _ _ _ _ _ refl c.loop-end.invariant.2 s (c.write_answer-written.ensures.line, c.write_answer-written.ensures.end),
-      c.write_answer-written.auto.out ∙ c.loop-end.invariant.1,
+      turn _ _ _ _ _ _ _ _ _ _ _ c.loop-end.invariant.0 n c.in-Some.ensures.1 _ _ _ _ _ _ _ _ refl c.loop-end.invariant.2 s c.write_answer.ensures.wrote,
+      search rules,
       same_report _ _ _ _ _ _ _ _ _ _ s ∙ c.loop-end.invariant.2,
       c.play_line-played.auto.frame ∙ c.loop-end.invariant.3,
     )
@@ -55,10 +56,15 @@ loop-end-smaller c = omega (arith, ahead (goal.at.loop-end-smaller c).In-Some, c
 pub returns : goal.returns
 unfolding ledger_view
 returns c =
-    let n = rw c.loop-end.invariant.1 at (next_is _ _ _ _ c.loop-end.invariant.0.within (sym c.in_default.ensures)) in
+    let p = c.loop-end.invariant.0 in
+    let n = rw (c.len.ensures, ← c.new-w.ensures.1) at (next_is _ _ _ _ p.within (sym c.in_default.ensures)) in
     let stop = n.done (omega arith) in
-    record {
-      passed = c.loop-end.invariant.0;
-      which = all_chosen _ _ _ _ _ _ _ _ _ _ c.loop-end.invariant.0 stop;
-      stop = ⊎_elim (λ w. inl w) (λ w. inr (omega (arith, c.loop-end.invariant.0.room))) stop;
-    }
+    subst
+    (λ out. RunIs c.args.l.now c.args.lines.now c.args.out.now (record { read = c.loop-end.read; written = c.len-2.result }) c.loop-end.l out)
+    {x = c.loop-end.w.out.now} (search rules)
+    (rw (c.len-2.ensures, ← c.new-w.ensures.1)
+    (record {
+      passed = p;
+      which = all_chosen _ _ _ _ _ _ _ _ _ _ p stop;
+      stop = ⊎_elim (λ w. inl w) (λ w. inr (omega (arith, p.room))) stop;
+    }))
