@@ -53,7 +53,7 @@ pub fn rows_at(b: &[u8], size: usize) -> bool
     is_count::<16>(k) & (b.len() == 47 + (1 + k * size))
 }
 
-// The place behind n conditions that begin at a place; none where one of them is ill-formed.
+// The place behind n conditions that begin at a place; none where one of them is ill-formed. The loop counts them, since a condition has no width that is known before.
 pub fn conditions_end(b: &[u8], from: usize, n: usize) -> Option<usize>
     requires { (from ≤ 48) × (n ≤ 8) }
     ensures { result ≡ cond (are_conditions n (drop from b.now)) (Some (from + conditions_width n (drop from b.now))) None }
