@@ -31,7 +31,8 @@ fn conditions_fit(conditions: &Conditions) -> bool
         && conditions_end(&conditions.texts, 0, conditions.count).is_some()
 }
 
-// The checks of a search with a report buffer of `room` bytes; the set of the places of the selected accounts.
+// The checks of a search with a report buffer of `room` bytes; the set of the places of the selected accounts. The conditions go by value:
+// behind a reference the proof does not know that their bytes are bytes.
 fn search_checks(
     l: &Ledger,
     header: Header,
