@@ -6,7 +6,7 @@ use Prim.Native.Nat.{ℕ, ◌≤◌, ◌%◌}
 use native.Mathlib.Omega.{arith}
 use native.Mathlib.Decide.{dec_le}
 use lib.ListN.{length, take}
-use lib.Seq.{length-take-le, take_all, take-append-le}
+use lib.Seq.{length-take-le, take_all}
 use lib.Dec.{eqb}
 use borrow.Author.Tests.{ne_eqb}
 use Rattle.frame.specs.Hex.{hex, all_hex, unhex}
@@ -16,7 +16,7 @@ use Rattle.lines.specs.Text.{push, whole_lines}
 use Rattle.frame_echo.specs.Printed.{echoed, grown, begun, printed, last}
 use Rattle.frame_echo.specs.Lines.{echoes, LinesEchoed}
 use Rattle.frame_echo.proofs.Laws.{frame_digits}
-use Rattle.frame_echo.proofs.Begun.{begun_then, printed_then, last_none}
+use Rattle.frame_echo.proofs.Begun.{take_cut, begun_then, printed_then, last_none}
 
 -- ---- a long line and what is kept of it are no frames
 
@@ -39,15 +39,7 @@ cut_echoed line = go (dec_le (length line) 705)
 
 cut_grown : (line : List ℕ) (b : ℕ) → grown (take 705 line) b ≡ take 705 (line ++ (b ∷ []))
 unfolding grown
-cut_grown line b = go (dec_le (length line) 705)
-  where
-    go : Dec (length line ≤ 705) → take 705 (take 705 line ++ (b ∷ [])) ≡ take 705 (line ++ (b ∷ []))
-    go (yes h) = ap (λ (l : List ℕ). take 705 (l ++ (b ∷ []))) (take_all 705 line h)
-    go (no h) =
-        let n : length (take 705 line) ≡ 705 = length-take-le 705 line (omega arith) in
-        take-append-le 705 (take 705 line) (b ∷ []) (omega arith)
-        ∙ take_all 705 (take 705 line) (omega arith)
-        ∙ sym (take-append-le 705 line (b ∷ []) (omega arith))
+cut_grown line b = take_cut 705 line (b ∷ [])
 
 -- ---- lines behind a begun line
 

@@ -6,6 +6,7 @@ use native.Mathlib.Omega.{arith}
 use lib.ListN.{length, take, drop}
 use lib.Seq.{take_at}
 use Rattle.std.specs.Prelude.{Option, Some, None, Result, Ok, Err, is_ok, OnOk}
+use mathlib.Core.Bool.{true}
 use Rattle.std.proofs.lemmas.Bool.{false≢true}
 use Rattle.std.specs.Io.KnownBytes.{Consumes, Appends, IsAtEnd}
 use Rattle.octets.specs.Octets.{write}
@@ -36,7 +37,12 @@ appends_none : (a : Option (List ℕ)) → Appends a a []
 appends_none None = tt
 appends_none (Some a) = sym (append-nil a)
 
--- ---- a result whose error was mapped
+-- ---- a result, and one whose error was mapped
+
+-- what is so on `Ok`, of a result that is
+pub on_ok : {T E P : Type 0} (r : Result T E) → is_ok r ≡ true → OnOk r P → P
+on_ok (Ok x) e h = h
+on_ok (Err x) e h = absurd (false≢true e)
 
 -- it is `Ok` where the result was
 pub on_ok_mapped : {T E D P Q : Type 0} (r : Result T E) (r' : Result T D) → is_ok r' ≡ is_ok r → (P → Q) → OnOk r P → OnOk r' Q

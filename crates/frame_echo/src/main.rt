@@ -2,7 +2,7 @@
 // empty line, which no frame is: so each line of the input has its own in the output, and every frame comes out as it went in.
 #![tactic(auto)]
 
-ghost use Rattle.std.specs.Prelude.{◌≡◌, [], ◌∷◌, ◌+◌, ◌≤◌, length, OnOk};
+ghost use Rattle.std.specs.Prelude.{◌≡◌, [], ◌++◌, ◌+◌, ◌≤◌, length, take, OnOk};
 ghost use Rattle.octets.specs.Octets.{write};
 ghost use Rattle.octet_writer.specs.Written.{HasRoom, IsSameBuffer, Wrote};
 ghost use Rattle.frame.specs.Frame.{read_frame};
@@ -15,6 +15,7 @@ use command::parse;
 use frame_reader::nomiluvar_read_frame;
 use frame_writer::write_frame;
 use hex_writer::put_hex;
+use memchr::memchr_iter;
 use octet_writer::Writer;
 use std::io::{Read, Write};
 use std::process::ExitCode;
@@ -40,31 +41,40 @@ fn echo(w: &mut Writer, line: &[u8])
     w.put(b'\n');
 }
 
-// Takes one byte: a line end ends the begun line, any other byte belongs to it. 705 bytes of a line are kept: no frame has more than 704 digits.
-fn step(b: u8, line: &mut ArrayVec<u8, 705>, w: &mut Writer)
-    requires { HasRoom (length line.old.items + 1) w.old }
-    ensures buffer { IsSameBuffer w.old w.new }
-    ensures echo { EchoIs line.old.items (b ∷ []) w.old.at w.old.out.now w.new.out.now line.new.items w.new.at }
+// Takes a piece of a line, as much of it as has room. 705 bytes of a line are kept: no frame has more than 704 digits.
+fn grow(line: &mut ArrayVec<u8, 705>, piece: &[u8])
+    ensures fits { length line.old.items ≤ 705 }
+    ensures kept { line.new.items ≡ take 705 (line.old.items ++ piece.now) }
 {
-    if b == b'\n' {
-        echo(w, line.as_slice());
-        line.clear();
-        return;
-    }
-    if !line.is_full() {
-        line.push(b);
-    }
+    let n = piece.len().min(line.remaining_capacity());
+    let _ = line.try_extend_from_slice(&piece[..n]);
 }
 
-// Takes all bytes of a text, and gives how many bytes came of it.
+// Takes the last piece of a line, which its end follows: the line is echoed, and none is begun.
+fn step(piece: &[u8], line: &mut ArrayVec<u8, 705>, w: &mut Writer)
+    requires { HasRoom (length line.old.items + length piece.now + 1) w.old }
+    ensures buffer { IsSameBuffer w.old w.new }
+    ensures fits { length line.old.items ≤ 705 }
+    ensures echo { Wrote (echoed (take 705 (line.old.items ++ piece.now))) w.old w.new }
+    ensures begun { line.new.items ≡ [] }
+{
+    grow(line, piece);
+    echo(w, line.as_slice());
+    line.clear();
+}
+
+// Takes all bytes of a text, a line at a time, and gives how many bytes came of it.
 fn steps(text: &[u8], line: &mut ArrayVec<u8, 705>, out: &mut [u8]) -> usize
     requires { length line.old.items + length text.now ≤ length out.old }
     ensures { EchoIs line.old.items text.now 0 out.old out.new line.new.items result }
 {
     let mut w = Writer::new(out);
-    for b in text {
-        step(*b, line, &mut w);
+    let mut from = 0;
+    for end in memchr_iter(b'\n', text) {
+        step(&text[from..end], line, &mut w);
+        from = end + 1;
     }
+    grow(line, &text[from..]);
     w.len()
 }
 

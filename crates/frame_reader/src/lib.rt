@@ -51,7 +51,7 @@ fn decode(line: &[u8], buf: &mut [u8])
 
 // Writes the bytes that a line's digits are from byte 0 on and gives how many. Where the line is no even number of hexadecimal digits, or has over 704 of
 // them, it gives none and leaves the buffer as it was. The buffer is no `&mut [u8; 352]`, here and in what calls it: that would ask more of a caller with a longer one.
-fn unpack(line: &[u8], buf: &mut [u8]) -> Option<usize>
+pub fn unpack(line: &[u8], buf: &mut [u8]) -> Option<usize>
     requires { 352 ≤ length buf.old }
     ensures { (is_some result ≡ is_packed line.now) × (Filled (unpacked line.now) buf.old buf.new (unwrap_or result 0)) }
 {
@@ -65,7 +65,7 @@ fn unpack(line: &[u8], buf: &mut [u8]) -> Option<usize>
 
 // The length of the frame that a line is, which then stands in the buffer from byte 0 on; none where the line is no frame. The buffer gets the bytes that the
 // line's digits are, whether they are a frame or not.
-pub fn unpack_frame(line: &[u8], buf: &mut [u8]) -> Option<usize>
+fn unpack_frame(line: &[u8], buf: &mut [u8]) -> Option<usize>
     requires { 352 ≤ length buf.old }
     ensures bytes { buf.new ≡ unpacked line.now ++ drop (length (unpacked line.now)) buf.old }
     ensures frame { MatchOption result (line_frame line.now ≡ []) (λ n. (is_frame (line_frame line.now) ≡ true) × FrameAt line.now buf.new n) }

@@ -17,7 +17,7 @@ use Rattle.frame.specs.Frame.{is_frame, frame_of, commands_of, given, command_fr
 use Rattle.frame.specs.Filled.{Filled}
 use Rattle.frame.proofs.OneToOneProof.{carries, carried, one_to_one}
 use Rattle.command.specs.declared.Command.{Command}
-use Rattle.command.specs.View.{commands}
+use Rattle.command.specs.View.{to_command, commands}
 use Rattle.frame_writer.specs.RoundTrip.{RoundTrip}
 
 -- ---- one command or none
@@ -82,5 +82,16 @@ parsed_written b p entry exit r a h room e w =
     let same : write_frame (commands p) (length entry) ≡ b = rw (e ∙ carried b a h, le-leb 352 (length entry) room, k.in_range) k.framed in
     rw same at w
 
+-- `commands` of a command is that one
+written_taken : (o : Option Command) (c : Command) (entry exit : List ℕ) (r : ℕ) → Filled (write_frame (commands o) (length entry)) entry exit r → 0 < r
+    → to_command c ∷ [] ≡ commands_of (take r exit) → to_command c ∷ [] ≡ commands o
+unfolding commands
+written_taken o c entry exit r w h e = written_parsed o (Some c) entry exit r w h e
+
+taken_written : (b : List ℕ) (c : Command) (entry exit : List ℕ) (r : ℕ) → are_bytes b ≡ true → is_frame b ≡ true → 352 ≤ length entry
+    → to_command c ∷ [] ≡ commands_of b → Filled (write_frame (to_command c ∷ []) (length entry)) entry exit r → Filled b entry exit r
+unfolding commands
+taken_written b c entry exit r a h room e w = parsed_written b (Some c) entry exit r a h room e w
+
 pub round_trip : RoundTrip
-round_trip = record { accepted = accepted; written_parsed = written_parsed; parsed_written = parsed_written }
+round_trip = record { accepted = accepted; written_parsed = written_parsed; parsed_written = parsed_written; written_taken = written_taken; taken_written = taken_written }

@@ -1,7 +1,9 @@
--- Parsing after writing and writing after parsing (demand 2 of paper 01), of the functions that run. Each of the two is known by its `ensures` alone, which
--- stands here word for word:
+-- Parsing after writing and writing after parsing (demand 2 of paper 01), of the functions that run. Each is known by its `ensures` alone, which stands
+-- here word for word:
 --   `parse` in command/src, of the bytes b, giving p, a command or none:
 --     commands p ≡ commands_of b
+--   `command_of` and `transfer_at` in command/src, of the bytes b of a frame, giving the command c, of `transfer_at` a payment:
+--     to_command c ∷ [] ≡ commands_of b
 --   `write_frame` in frame_writer/src, of o, a command or none, and a buffer that held `entry` and then holds `exit`, giving the length r:
 --     Filled (write_frame (commands o) (length entry)) entry exit r
 -- Assumes nothing.
@@ -12,7 +14,7 @@ use Rattle.rules.specs.Command.{well_formed}
 use Rattle.frame.specs.Frame.{is_frame, commands_of, write_frame}
 use Rattle.frame.specs.Filled.{Filled}
 use Rattle.command.specs.declared.Command.{Command}
-use Rattle.command.specs.View.{commands}
+use Rattle.command.specs.View.{to_command, commands}
 
 pub record RoundTrip : Type 0 where
   -- a command that is in range is written, where the buffer has room
@@ -35,4 +37,17 @@ pub record RoundTrip : Type 0 where
       → 352 ≤ length entry
       → commands p ≡ commands_of b
       → Filled (write_frame (commands p) (length entry)) entry exit r
+      → Filled b entry exit r
+  -- the same of a command that is taken from the bytes of a frame
+  pub written_taken : (o : Option Command) (c : Command) (entry exit : List ℕ) (r : ℕ)
+      → Filled (write_frame (commands o) (length entry)) entry exit r
+      → 0 < r
+      → to_command c ∷ [] ≡ commands_of (take r exit)
+      → to_command c ∷ [] ≡ commands o
+  pub taken_written : (b : List ℕ) (c : Command) (entry exit : List ℕ) (r : ℕ)
+      → are_bytes b ≡ true
+      → is_frame b ≡ true
+      → 352 ≤ length entry
+      → to_command c ∷ [] ≡ commands_of b
+      → Filled (write_frame (to_command c ∷ []) (length entry)) entry exit r
       → Filled b entry exit r

@@ -4,7 +4,7 @@ use mathlib.Core.List.{List, [], ◌∷◌, ◌++◌}
 use Prim.Native.Nat.{ℕ, ◌+◌, ◌*◌, ◌/◌, ◌%◌, ◌<◌}
 use native.Mathlib.Numerals.{add-one}
 use native.Mathlib.Omega.{arith}
-use lib.ListN.{length, take, get_or}
+use lib.ListN.{length, take, get_or, set}
 use lib.Seq.{take-suc}
 use Rattle.octets.specs.Octets.{write}
 use Rattle.octet_writer.specs.Written.{Written}
@@ -25,6 +25,11 @@ hex_snoc (a ∷ t) b = ap (λ (l : List ℕ). hex_digit (a / 16) ∷ hex_digit (
 pub hex_none : {l : List ℕ} {i : ℕ} (r : List ℕ) → Written l i (hex (take 0 r)) l i
 unfolding hex write
 hex_none r = record { bytes = refl; behind = omega arith }
+
+-- a byte stored at its place
+pub stored : (l : List ℕ) (i b j : ℕ) → j ≡ i + 1 → Written l i (b ∷ []) (set l i b) j
+unfolding write
+stored l i b j e = record { bytes = refl; behind = e }
 
 -- one byte more
 pub hex_more : {l m n o : List ℕ} {at j p q d e : ℕ} (r : List ℕ) (i : ℕ) → i < length r → Written l at (hex (take i r)) m j → Written m j (d ∷ []) n p → Written n p (e ∷ []) o q

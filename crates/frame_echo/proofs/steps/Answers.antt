@@ -1,24 +1,42 @@
--- The loop's invariant: what came of the bytes passed. Assumes nothing.
+-- The loop's invariant: what came of the lines passed, and the line ends that are left. Assumes nothing.
 use borrow.Author.Rules.{rules}
-use mathlib.Core.Path.{refl, ap}
+use mathlib.Core.List.{◌∷◌}
+use mathlib.Core.Path.{refl, ap, ◌∙◌}
 use native.Mathlib.Omega.{arith}
 use lib.ListN.{length}
-use lib.Seq.{length-take-le, take_all}
-use Rattle.frame_echo.proofs.Begun.{echo_fits, echo_none, echo_next}
+use Rattle.frame_echo.proofs.Begun.{Passed, LineFits, none_passed, line_fits, line_passed, text_passed}
+use Rattle.frame_echo.proofs.steps.Goals.{In-Some}
 use Rattle.frame_echo.proofs.steps.Goals as goal
 
-pub loop-b-init : goal.loop-b-init
-loop-b-init c = ((refl, refl), rw c.new-w.ensures.2 (echo_none c.args.line.now.items c.new-w.result.out.now))
+pub loop-end-init : goal.loop-end-init
+loop-end-init c = ((refl, refl), none_passed (c.into_iter-end-iterator.ensures.into_iter_gives ∙ c.memchr_iter-end-items.ensures.value) c.new-w.ensures.2)
 
--- a begun line and what is printed take no more room than the bytes that came
+-- the next line end
+next : (c : In-Some)
+    → Passed c.args.text.now c.args.line.now.items c.loop-end.from (c.in-Some.end ∷ c.next.new.self) c.new-w.result.out.now c.loop-end.w.out.now c.loop-end.line.items c.loop-end.w.at
+next c = rw c.in-Some.ensures.steps at c.loop-end.invariant.1
+
+fits : (c : In-Some) → LineFits c.args.text.now c.args.line.now.items c.loop-end.line.items c.loop-end.from c.in-Some.end c.loop-end.w.at
+fits c = line_fits _ _ _ _ _ _ _ _ _ (next c)
+
+pub slice_bounds-step-count : goal.slice_bounds-step-count
+slice_bounds-step-count c = (fits (goal.at.slice_bounds-step-count c).In-Some).ahead
+
+pub slice_bounds-step-start : goal.slice_bounds-step-start
+slice_bounds-step-start c = let f = fits (goal.at.slice_bounds-step-start c).In-Some in omega (arith, f.ahead, f.inside)
+
+pub slice_bounds-step-end : goal.slice_bounds-step-end
+slice_bounds-step-end c = let f = fits (goal.at.slice_bounds-step-end c).In-Some in omega (arith, f.ahead, f.inside)
+
 pub step-requires : goal.step-requires
-step-requires c =
-    omega (arith, echo_fits _ _ _ _ _ _ c.loop-b.invariant.1, c.loop-b.invariant.0.1, ap length c.new-w.ensures.1, length-take-le c.loop-b.b-index c.args.text.now (omega arith), c.requires)
+step-requires c = omega (arith, (fits (goal.at.step-requires c).In-Some).room, c.loop-end.invariant.0.1, ap length c.new-w.ensures.1, c.requires)
 
-pub loop-b-preserved : goal.loop-b-preserved
-loop-b-preserved c = (search rules, echo_next c.args.text.now _ _ _ _ _ _ c.loop-b.b-index _ _ (omega arith) c.loop-b.invariant.1 c.step.ensures.echo)
+pub loop-end-preserved : goal.loop-end-preserved
+loop-end-preserved c =
+    (search rules, line_passed _ _ _ _ _ _ _ _ _ _ _ _ c.step.ensures.fits (next (goal.at.loop-end-preserved c).In-Some) c.step.ensures.echo c.step.ensures.begun)
 
 pub returns : goal.returns
 returns c =
-    let e = rw (take_all c.loop-b.b-index c.args.text.now (omega arith), c.new-w.ensures.1) at c.loop-b.invariant.1 in
+    let p = rw c.in-None.ensures.steps.0 at c.loop-end.invariant.1 in
+    let e = rw c.new-w.ensures.1 at (text_passed _ _ _ _ _ _ _ _ c.grow.ensures.fits p c.grow.ensures.kept) in
     search rules

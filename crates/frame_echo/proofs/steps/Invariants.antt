@@ -1,8 +1,7 @@
--- The loop's invariant: what came of the bytes passed. Assumes nothing.
-use lib.ListN.{take}
+-- The loop's invariant: what came of the lines passed, and the line ends that are left. Assumes nothing.
 use Rattle.octet_writer.specs.Written.{IsSameBuffer}
-use Rattle.frame_echo.specs.Printed.{EchoIs}
+use Rattle.frame_echo.proofs.Begun.{Passed}
 use Rattle.frame_echo.proofs.steps.Given as goal
 
-abbrev pub invariant-loop-b : goal.invariant-loop-b
-invariant-loop-b l = IsSameBuffer l.initial.w l.w × EchoIs l.initial.line.items (take l.b-index l.text) 0 l.initial.w.out.now l.w.out.now l.line.items l.w.at
+abbrev pub invariant-loop-end : goal.invariant-loop-end
+invariant-loop-end l = IsSameBuffer l.initial.w l.w × Passed l.text l.initial.line.items l.from l.end-iterator l.initial.w.out.now l.w.out.now l.line.items l.w.at
