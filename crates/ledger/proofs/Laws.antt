@@ -19,8 +19,9 @@ use Rattle.rules.proofs.Bools.{and_l, and_r}
 use Rattle.rules.proofs.Checks.{refused_keeps}
 use Rattle.rules.proofs.Theorem.{next_keeps, start_inv}
 use Rattle.table.specs.declared.Table.{Table}
-use Rattle.table.specs.Promise.{Reply, OwnCodes, Good, Called}
+use Rattle.table.specs.Promise.{Reply, OwnCodes, Good, Beyond, Called}
 use Rattle.table.specs.View.{accounts_of, machine_of}
+use Rattle.table.proofs.Called.{stays}
 use Rattle.book.specs.declared.Book.{Book}
 use Rattle.book.specs.Entries.{entries_of, book_of, Lengths, Behind, Added, Dropped}
 use Rattle.book.proofs.Laws.{untouched, entries_length}
@@ -53,6 +54,7 @@ module _ (k : Command) (t : Table) (ids days : List ℕ) (used : ℕ) where
     moves = sym (refused_keeps (view_of t ids days used) (lent 0 k) (λ z. h (e ∙ z)));
     refused = λ z. unchanged t ids days used;
     behind = untouched ids days used;
+    beyond = stays t;
     sound = λ g. g;
   }
 
@@ -71,11 +73,11 @@ module _ (k : Command) (t : Table) (ids days : List ℕ) (used : ℕ) where
   next_effect room e = sym (ap (λ n. if_accepted n (effect (view_of t ids days used) k) (view_of t ids days used)) e)
 
   pub settled_yes : (u : Table) (ids' days' : List ℕ) (used' : ℕ) → answer (view_of t ids days used) (lent 0 k) ≡ 0 → OwnCodes u.codes u.count (accounts_of u)
-      → used' ≤ 1024 → Lengths ids' days' → Behind ids days ids' days' used' → view_of u ids' days' used' ≡ effect (view_of t ids days used) k
+      → used' ≤ 1024 → Lengths ids' days' → Behind ids days ids' days' used' → Beyond t u → view_of u ids' days' used' ≡ effect (view_of t ids days used) k
       → Settled k t ids days used (record { answer = 0; table = u; used = used' }) ids' days'
-  settled_yes u ids' days' used' e o f l b v =
+  settled_yes u ids' days' used' e o f l b y v =
       let moved : view_of u ids' days' used' ≡ next (view_of t ids days used) (lent 0 k) = v ∙ next_effect 0 e in
-      record { says = sym e; moves = moved; refused = λ h. absurd (h refl); behind = b; sound = λ g. next_sound g 0 u ids' days' used' o f l moved }
+      record { says = sym e; moves = moved; refused = λ h. absurd (h refl); behind = b; beyond = y; sound = λ g. next_sound g 0 u ids' days' used' o f l moved }
 
 -- a call on the table alone
 pub settled_table : (k : Command) (t : Table) (ids days : List ℕ) (used : ℕ) (r : Reply) → T (plain k) → Called k t r
@@ -88,6 +90,7 @@ settled_table k t ids days used r p c =
       moves = l.1;
       refused = λ h. record { table_same = c.refused h; ids_same = refl; days_same = refl; used_same = refl };
       behind = untouched ids days used;
+      beyond = c.beyond;
       sound = λ g. let good = c.good (good_table t ids days used g) in next_sound k t ids days used g 0 r.table ids days used good.own g.few g.lengths l.1;
     }
 
@@ -112,6 +115,7 @@ settled_day_yes d t ids days used r ids' days' kept few c z b =
       moves = moved;
       refused = λ h. absurd (h z);
       behind = b.behind;
+      beyond = c.beyond;
       sound = λ g. let good = c.good (good_table t ids days used g) in next_sound (Opening d) t ids days used g 0 r.table ids' days' kept good.own (omega (arith, b.fewer, few)) b.lengths moved;
     }
 
@@ -150,6 +154,7 @@ played_silent k t ids days used report r ids' days' s p = record {
   fits = omega arith;
   refused = p.refused;
   behind = p.behind;
+  beyond = p.beyond;
   sound = p.sound;
 }
 
@@ -163,6 +168,7 @@ played_none t ids days used report = record {
   fits = omega arith;
   refused = λ h. unchanged t ids days used;
   behind = untouched ids days used;
+  beyond = stays t;
   sound = λ g. g;
 }
 

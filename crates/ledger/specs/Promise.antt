@@ -5,7 +5,7 @@ use Rattle.rules.specs.Command.{Command}
 use Rattle.rules.specs.Invariant.{Invariant}
 use Rattle.rules.specs.Machine.{answer, next}
 use Rattle.table.specs.declared.Table.{Table}
-use Rattle.table.specs.Promise.{OwnCodes}
+use Rattle.table.specs.Promise.{OwnCodes, Beyond}
 use Rattle.table.specs.View.{accounts_of}
 use Rattle.refusal.specs.declared.Refusal.{Refusal}
 use Rattle.refusal.specs.Answer.{answer_of}
@@ -44,16 +44,18 @@ pub record Stepped : Type 0 where
   pub report_len : ℕ
 
 -- of a call that has no report: the answer is the history machine's, the record afterwards is its next, a refusal leaves the very same record, and a sound
--- record stays sound. The used places of the book hold what the next record says, byte for byte, and those behind them stay
+-- record stays sound. The used places of the book hold what the next record says, byte for byte, and those behind them stay, as do the places of the table
+-- behind those then in use
 pub record Settled (k : Command) (t : Table) (ids days : List ℕ) (used : ℕ) (r : Noted) (ids' days' : List ℕ) : Type 0 where
   pub says : r.answer ≡ answer (view_of t ids days used) (lent 0 k)
   pub moves : view_of r.table ids' days' r.used ≡ next (view_of t ids days used) (lent 0 k)
   pub refused : ¬ (r.answer ≡ 0) → Same t ids days used r.table ids' days' r.used
   pub behind : Behind ids days ids' days' r.used
+  pub beyond : Beyond t r.table
   pub sound : Sound t ids days used → Sound r.table ids' days' r.used
 
 -- of every call, and of bytes that hold one command or none: answer and report are the history machine's, the record afterwards is its next, a refusal
--- leaves the very same record, and a sound record stays sound. The book is as with `Settled`; the report stands in the lent buffer from byte 0 on, and the bytes
+-- leaves the very same record, and a sound record stays sound. Book and table are as with `Settled`; the report stands in the lent buffer from byte 0 on, and the bytes
 -- past it stay
 pub record Played (cs : List Command) (t : Table) (ids days : List ℕ) (used : ℕ) (report : List ℕ) (r : Stepped) (ids' days' report' : List ℕ) : Type 0 where
   pub says : record { answer = r.answer; report = take r.report_len report' } ≡ outcome_of (view_of t ids days used) (length report) cs
@@ -62,6 +64,7 @@ pub record Played (cs : List Command) (t : Table) (ids days : List ℕ) (used : 
   pub fits : r.report_len ≤ length report
   pub refused : ¬ (r.answer ≡ 0) → Same t ids days used r.table ids' days' r.used
   pub behind : Behind ids days ids' days' r.used
+  pub beyond : Beyond t r.table
   pub sound : Sound t ids days used → Sound r.table ids' days' r.used
 
 -- ---- the same of a call that is lent the whole record, gives the result r and leaves the record u

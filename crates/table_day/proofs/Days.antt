@@ -8,7 +8,7 @@ use native.Mathlib.Numerals.{add-one}
 use borrow.Author.Tests.{lt-ltb}
 use lib.Dec.{ltb}
 use lib.ListN.{length, take, drop, get_or, set, length-map, length-append, length-drop}
-use lib.Seq.{take-append_seam}
+use lib.Seq.{take-append_seam, drop-append_seam}
 use Rattle.rules.specs.Account as Rule
 use Rattle.rules.specs.Account.{codes, blank}
 use Rattle.rules.specs.Command.{Opening, is_day, well_formed}
@@ -93,13 +93,15 @@ pub still_long : (t : Table) → Good t → length t.accounts ≡ 64 → (items 
 still_long t g long items e = omega (arith, length-append items (drop t.count t.accounts), length-drop t.count t.accounts, as_many t g long items e, long, g.own.within)
 
 -- all accounts have had their new day, and the day is another
-pub opened_called : (t : Table) → Good t → length t.accounts ≡ 64 → (items rest : List Account) → map to_account items ≡ map new_day (accounts_of t) → (d : ℕ) → answer (machine_of t) (call (Opening d)) ≡ 0
-    → Called (Opening d) t (record { answer = 0; table = record { codes = t.codes; accounts = items ++ rest; count = t.count; day = d } })
+pub opened_called : (t : Table) → Good t → length t.accounts ≡ 64 → (items : List Account) → map to_account items ≡ map new_day (accounts_of t) → (d : ℕ) → answer (machine_of t) (call (Opening d)) ≡ 0
+    → Called (Opening d) t (record { answer = 0; table = record { codes = t.codes; accounts = items ++ drop t.count t.accounts; count = t.count; day = d } })
 unfolding machine_of accounts_of with_accounts effect keep_from
-opened_called t g long items rest e d z =
+opened_called t g long items e d z =
+    let rest = drop t.count t.accounts in
     let n : length items ≡ t.count = as_many t g long items e in
     let accounts : map to_account (take t.count (items ++ rest)) ≡ map new_day (accounts_of t) =
     ap (λ n. map to_account (take n (items ++ rest))) (sym n) ∙ ap (map to_account) (take-append_seam items rest) ∙ e in
     accepted (Opening d) t (record { codes = t.codes; accounts = items ++ rest; count = t.count; day = d }) z
     (record { within = g.own.within; same = g.own.same ∙ sym (codes_map new_day tame_new_day.code_kept (accounts_of t)) ∙ ap codes (sym accounts) })
+    (record { codes_stay = refl; accounts_stay = ap (λ n. drop n (items ++ rest)) (sym n) ∙ drop-append_seam items rest })
     (ap (λ (xs : List Rule.Account). record { day = d; accounts = xs; ids = [] }) accounts)

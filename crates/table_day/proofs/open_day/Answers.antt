@@ -30,7 +30,7 @@ renewed c = c.renew.ensures
 opened : (c : After-renew) → let t = table_of c.t.inside in Called (Opening c.args.day) t (record { answer = 0; table = record { codes = t.codes; accounts = c.renew.new.accounts ++ drop t.count t.accounts; count = t.count; day = c.args.day } })
 opened c =
     let e = day_answer (table_of c.t.inside) c.args.day c.ranges.day.fits in
-    opened_called (table_of c.t.inside) c.t.invariant.good c.t.invariant.long c.renew.new.accounts _ (renewed c) c.args.day (grind arith)
+    opened_called (table_of c.t.inside) c.t.invariant.good c.t.invariant.long c.renew.new.accounts (renewed c) c.args.day (grind arith)
 
 pub invariant_of-t : goal.invariant_of-t
 invariant_of-t c =
