@@ -4,6 +4,7 @@ use mathlib.Core.List.{[], ◌∷◌, ◌++◌, map}
 use Prim.Native.Nat.{◌+◌, ◌<◌}
 use native.Mathlib.Omega.{arith}
 use lib.ListN.{length, take, set}
+use lib.Seq.{drop-set-lt}
 use Rattle.rules.specs.Account as Rule
 use Rattle.rules.specs.Account.{codes}
 use Rattle.rules.specs.Command.{Command}
@@ -33,7 +34,7 @@ module _ (k : Command) (t : Table) (y : Rule.Account) (z : 0 ≡ answer (machine
 -- an account has joined the table, and the call is accepted
 pub joined : (k : Command) (t r : Table) (x : Account) (y : Rule.Account) → Holds t r (accounts_of t ++ (to_account x ∷ [])) → to_account x ≡ y → 0 ≡ answer (machine_of t) (call k)
     → with_accounts (accounts_of t ++ (y ∷ [])) (machine_of t) ≡ effect (machine_of t) k → Called k t (record { answer = 0; table = r })
-joined k t r x y h e z w = accepted k t r (sym z) h.own (h.view ∙ ap (λ a. with_accounts (accounts_of t ++ (a ∷ [])) (machine_of t)) e ∙ w)
+joined k t r x y h e z w = accepted k t r (sym z) h.own h.beyond (h.view ∙ ap (λ a. with_accounts (accounts_of t ++ (a ∷ [])) (machine_of t)) e ∙ w)
 
 module _ (t : Table) (g : Good t) (long : length t.accounts ≡ 64) where
   -- the place after the last
@@ -47,5 +48,6 @@ module _ (t : Table) (g : Good t) (long : length t.accounts ≡ 64) where
           within = omega arith;
           same = append_codes t.codes t.count x.code (omega (arith, cl)) ∙ ap (λ l. l ++ (x.code ∷ [])) g.own.same ∙ sym (codes_join (accounts_of t) (to_account x)) ∙ sym (ap codes grown);
         };
+        beyond = record { codes_stay = drop-set-lt (t.count + 1) t.codes t.count x.code (omega arith); accounts_stay = drop-set-lt (t.count + 1) t.accounts t.count x (omega arith) };
         view = ap (λ ys. with_accounts ys (machine_of t)) grown;
       }

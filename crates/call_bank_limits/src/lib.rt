@@ -9,7 +9,7 @@ ghost use Rattle.table.specs.Promise.{Calls};
 
 use account::Limit;
 use amount::is_limit;
-use bank_checks::bank_checks;
+use bank_checks::bank_place;
 use refusal::Refusal;
 use table::Table;
 
@@ -24,7 +24,7 @@ fn in_range(ltk: i64, lpo: i64) -> bool
 pub fn bank_limits(t: &mut Table, code: u32, ltk: i64, lpo: i64) -> Result<(), Refusal>
     ensures { Calls (BankLimits code ltk lpo) t.old result t.new }
 {
-    let place = bank_checks(t, code, in_range(ltk, lpo), Refusal::OutOfRange)?;
+    let place = bank_place(t, code, in_range(ltk, lpo), Refusal::OutOfRange)?;
     t.accounts[place] = t.accounts[place].with_limits(Limit::Value(ltk), Limit::Value(lpo));
     Ok(())
 }

@@ -7,7 +7,7 @@ ghost use Rattle.ledger.specs.Promise.{Settles};
 
 use command::{ChangeItem, Header, Rows, is_header};
 use ledger::Ledger;
-use message_checks::{header_checks, named_checks};
+use message_checks::{check_header, check_named};
 use message_items::records;
 use message_limits::set_items;
 use refusal::Refusal;
@@ -18,9 +18,9 @@ use rules::is_count;
 pub fn change(l: &mut Ledger, header: Header, items: Rows<ChangeItem>) -> Result<(), Refusal>
     ensures { Settles (Change (to_header header) (items_from 0 items.count items.rows)) l.old result l.new }
 {
-    header_checks(l, is_header(header) & is_count::<16>(items.count), header)?;
+    check_header(l, is_header(header) & is_count::<16>(items.count), header)?;
     let items = records(&items.rows[..items.count]);
-    named_checks(l, header, &items)?;
+    check_named(l, header, &items)?;
     l.book.add(&header.id, l.table.today());
     let t = &mut l.table;
     set_items(&t.codes, &mut t.accounts, t.count, header, &items);

@@ -7,7 +7,7 @@ ghost use Rattle.ledger.specs.Promise.{Settles};
 
 use command::{Header, is_header};
 use ledger::Ledger;
-use message_checks::{header_checks, named_checks};
+use message_checks::{check_header, check_named};
 use message_fields::named;
 use message_items::Item;
 use message_limits::set_items;
@@ -19,13 +19,13 @@ use refusal::Refusal;
 pub fn deletion(l: &mut Ledger, header: Header, account: [u8; 10], kind: u8) -> Result<(), Refusal>
     ensures { Settles (Deletion (to_header header) account kind) l.old result l.new }
 {
-    header_checks(l, is_header(header), header)?;
+    check_header(l, is_header(header), header)?;
     let item = Item {
         code: named(&account),
         kind,
         value: None,
     };
-    named_checks(l, header, &[item])?;
+    check_named(l, header, &[item])?;
     l.book.add(&header.id, l.table.today());
     let t = &mut l.table;
     set_items(&t.codes, &mut t.accounts, t.count, header, &[item]);

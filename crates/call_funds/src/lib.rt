@@ -7,7 +7,7 @@ ghost use Rattle.table.specs.Promise.{Calls};
 use account_booking::{start_down, start_up};
 use account_state::{covers, total_fits};
 use amount::{amount_of, is_amount};
-use bank_checks::bank_checks;
+use bank_checks::bank_place;
 use refusal::{Refusal, check};
 use table::Table;
 
@@ -15,7 +15,7 @@ use table::Table;
 pub fn fund(t: &mut Table, code: u32, amount: i64) -> Result<(), Refusal>
     ensures { Calls (Funding code amount) t.old result t.new }
 {
-    let place = bank_checks(t, code, is_amount(amount), Refusal::OutOfRange)?;
+    let place = bank_place(t, code, is_amount(amount), Refusal::OutOfRange)?;
     let n = amount_of(amount);
     check(total_fits(t.total(), n), Refusal::NoRoom)?;
     t.accounts[place] = start_up(t.accounts[place], n);
@@ -26,7 +26,7 @@ pub fn fund(t: &mut Table, code: u32, amount: i64) -> Result<(), Refusal>
 pub fn withdraw(t: &mut Table, code: u32, amount: i64) -> Result<(), Refusal>
     ensures { Calls (Withdrawal code amount) t.old result t.new }
 {
-    let place = bank_checks(t, code, is_amount(amount), Refusal::OutOfRange)?;
+    let place = bank_place(t, code, is_amount(amount), Refusal::OutOfRange)?;
     let n = amount_of(amount);
     check(covers(t.accounts[place], n), Refusal::BankLtk)?;
     t.accounts[place] = start_down(t.accounts[place], n);

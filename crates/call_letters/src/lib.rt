@@ -6,7 +6,7 @@ ghost use Rattle.rules.specs.Command.{Letters, Mark, some?};
 ghost use Rattle.table.specs.View.{accounts_of};
 ghost use Rattle.table.specs.Promise.{Calls};
 
-use bank_checks::bank_checks;
+use bank_checks::bank_place;
 use refusal::{Refusal, check};
 use rules::{is_code, is_letters};
 use table::Table;
@@ -32,7 +32,7 @@ fn has_central(t: &Table) -> bool
 pub fn mark_bank(t: &mut Table, code: u32) -> Result<(), Refusal>
     ensures { Calls (Mark code) t.old result t.new }
 {
-    let place = bank_checks(t, code, !has_central(t), Refusal::MarkTaken)?;
+    let place = bank_place(t, code, !has_central(t), Refusal::MarkTaken)?;
     t.accounts[place] = t.accounts[place].with_mark();
     Ok(())
 }

@@ -1,6 +1,6 @@
 -- The four stores of a payment that is accepted. Assumes nothing.
 use mathlib.Core.Path.{◌≡◌, refl}
-use Prim.Native.Nat.{◌+◌, ◌^◌, ◌≤◌, ◌<◌}
+use Prim.Native.Nat.{ℕ, ◌+◌, ◌^◌, ◌≤◌, ◌<◌}
 use native.Mathlib.Omega.{arith}
 use lib.ListN.{get_or, set}
 use lib.IntN.{nat_abs}
@@ -25,7 +25,7 @@ use Rattle.call_payment.proofs.Parties.{as_payment}
 
 -- ---- the stores of an accepted one
 
-module _ (t : Table) (g : Good t) (p : Transfer) (f : Parties) (q : PartiesAt t p f) (in_range : T (is_amount p.amount)) (o : Account) where
+module _ (t : Table) (g : Good t) (p : Transfer) (f : Parties ℕ) (q : PartiesAt t p f) (in_range : T (is_amount p.amount)) (o : Account) where
   few : nat_abs p.amount ≤ 10 ^ 15
   few = (amount_range p.amount in_range).1
 

@@ -1,5 +1,5 @@
 -- What a change or a deletion has to show: its answer from the two parts of the checks, and the record after it. Assumes nothing.
-use Rattle.std.proofs.Common.{arith, ◌≡◌, sym, ap, ◌∙◌, subst, ℕ, ◌+◌, ◌<◌, Bool, List, length, map, take, drop, Result, Err}
+use Rattle.std.proofs.Common.{arith, ◌≡◌, refl, sym, ap, ◌∙◌, subst, ℕ, ◌+◌, ◌<◌, Bool, List, length, map, take, drop, Result, Err}
 use lib.Dec.{T}
 use Rattle.rules.specs.Account as Rule
 use Rattle.rules.specs.Account.{codes}
@@ -12,7 +12,7 @@ use Rattle.refusal.specs.declared.Refusal.{Refusal}
 use Rattle.refusal.specs.Answer.{number}
 use Rattle.refusal.proofs.Numbers.{no_zero}
 use Rattle.table.specs.declared.Table.{Table}
-use Rattle.table.specs.Promise.{OwnCodes, Kept}
+use Rattle.table.specs.Promise.{OwnCodes, Kept, Beyond}
 use Rattle.table.specs.View.{accounts_of}
 use Rattle.book.specs.declared.Book.{Book}
 use Rattle.book.specs.Entries.{Added}
@@ -45,17 +45,19 @@ module _ (k : Command) (l : Ledger) where
 
     -- all pass: the accounts of the table are arr, with the limits set as f says, and the id is in the book. The record l is opened as v, its table as t
     pub taken : {v : Ledger} {t : Table} → v ≡ l → SoundLedger v → t ≡ v.table → 0 ≡ first_failure (drop n tests) → l.book.used < 1024 → (f : List Rule.Account → List Rule.Account) (arr : List Account) (h : Header) (b : Book)
-        → OwnCodes t.codes t.count (map to_account (take t.count arr)) → length arr ≡ 64 → map to_account (take t.count arr) ≡ f (accounts_of t)
+        → OwnCodes t.codes t.count (map to_account (take t.count arr)) → length arr ≡ 64 → drop t.count arr ≡ drop t.count t.accounts → map to_account (take t.count arr) ≡ f (accounts_of t)
         → Added v.book.ids v.book.days v.book.used h.id v.table.day b.ids b.days → b.used ≡ v.book.used + 1 → with_id h (f (accounts_of l.table)) (ledger_view l) ≡ effect (ledger_view l) k
         → Takes k l (record { codes = t.codes; accounts = arr; count = t.count; day = t.day }) b
     unfolding answer ledger_view accounts_of
-    taken {v} {t} o g p rest room f arr h b own long set added used w =
+    taken {v} {t} o g p rest room f arr h b own long left set added used w =
         let u : Table = record { codes = t.codes; accounts = arr; count = t.count; day = t.day } in
         let opened : t ≡ l.table = p ∙ ap (λ (x : Ledger). x.table) o in
+        let apart : Beyond t u = record { codes_stay = refl; accounts_stay = left } in
         let joined : Added l.book.ids l.book.days l.book.used h.id l.table.day b.ids b.days = rw o at added in
         let settled : Settled k l.table l.book.ids l.book.days l.book.used (record { answer = 0; table = u; used = b.used }) b.ids b.days =
         rw (used, o)
         (settled_yes k l.table l.book.ids l.book.days l.book.used u b.ids b.days (l.book.used + 1) (sym (rest ∙ late n tests m (sym z))) own (omega (arith, room)) joined.lengths joined.behind
+        (subst (λ (x : Table). Beyond x u) opened apart)
         (noted l.table u l.book.ids l.book.days l.book.used b.ids b.days h (f (accounts_of l.table)) (ap (λ (x : Table). x.day) opened) (set ∙ ap (λ (x : Table). f (accounts_of x)) opened) joined ∙ w)) in
         let sound = settled.sound (rw o at g) in
         (record { good = good_table u b.ids b.days b.used sound; long = long }, sound, settled)

@@ -15,6 +15,7 @@ use Rattle.refusal.specs.declared.Refusal.{Refusal}
 use Rattle.refusal.specs.Answer.{number}
 use Rattle.refusal.proofs.Numbers.{no_zero}
 use Rattle.table.specs.View.{accounts_of}
+use Rattle.table.proofs.Called.{stays}
 use Rattle.book.specs.Entries.{Added}
 use Rattle.book.proofs.Laws.{untouched}
 use Rattle.ledger.specs.declared.Ledger.{Ledger}
@@ -37,6 +38,7 @@ module _ (k : Command) (l : Ledger) (report : List ℕ) where
         fits = omega arith;
         refused = λ z. unchanged l.table l.book.ids l.book.days l.book.used;
         behind = untouched l.book.ids l.book.days l.book.used;
+        beyond = stays l.table;
         sound = λ g. g;
       })
 
@@ -61,5 +63,6 @@ module _ (k : Command) (l : Ledger) (report : List ℕ) where
         fits = z;
         refused = λ r. absurd (r refl);
         behind = rw more b.behind;
+        beyond = rw same (stays l.table);
         sound = λ g. next_sound k l.table l.book.ids l.book.days l.book.used g (length report) u.table u.book.ids u.book.days u.book.used (rw same g.own) (omega arith) b.lengths moved;
       }

@@ -1,7 +1,7 @@
 // The limits that a message names, set by the items of a change or deleted, and the message's moment put on their accounts.
 #![tactic(auto)]
 
-ghost use Rattle.std.specs.Prelude.{◌≡◌};
+ghost use Rattle.std.specs.Prelude.{◌≡◌, drop};
 ghost use Rattle.rules.specs.Account.{adjust};
 ghost use Rattle.rules.specs.Message as Message;
 ghost use Rattle.command.specs.View.{to_header};
@@ -33,11 +33,12 @@ pub fn set_item(x: Account, item: Item, header: Header) -> Account
     x.touched(limit_type, limit, moment_of(header))
 }
 
-// An item set in place. One that has passed the checks names an account of the table.
+// An item set in place. One that has passed the checks names an account of the table. What stands behind the accounts in use stays.
 fn store(codes: &[u32; 64], accounts: &mut [Account; 64], count: usize, header: Header, item: Item)
     requires { Listed codes.now accounts.old count }
     ensures listed { Listed codes.now accounts.new count }
     ensures accounts { in_use accounts.new count ≡ adjust item.code (Message.touch (to_header header) item.kind (setting item.value)) (in_use accounts.old count) }
+    ensures rest { drop count accounts.new ≡ drop count accounts.old }
 {
     if let Some(i) = place(codes, count, item.code) {
         accounts[i] = set_item(accounts[i], item, header);
@@ -55,6 +56,7 @@ pub fn set_items(
     requires { Listed codes.now accounts.old count }
     ensures listed { Listed codes.now accounts.new count }
     ensures accounts { in_use accounts.new count ≡ set_records (to_header header) items.now (in_use accounts.old count) }
+    ensures rest { drop count accounts.new ≡ drop count accounts.old }
 {
     for item in items {
         store(codes, accounts, count, header, *item);

@@ -16,13 +16,12 @@ use account_state::{covers, has_room, under_cap};
 use amount::{Amount, is_amount};
 use command::Transfer;
 use payment_letters::sides_pass;
-use payment_parties::Parties;
 use refusal::{Refusal, check};
 use rules::{is_code, is_way};
 
-// The first four, which look at no account, of a payment whose parties were found or not.
+// The first four, which look at no account, of a payment whose parties were found or not: handed on is what was found of them.
 #[tactic(auto, using(octets::proofs::Numbers::fits_money), unfolding(crate::specs::Checks::early_checks, rules::specs::Machine::first_failure, rules::specs::Command::well_formed))]
-pub fn early(p: Transfer, found: Option<Parties>) -> Result<Parties, Refusal>
+pub fn early<X: Copy>(p: Transfer, found: Option<X>) -> Result<X, Refusal>
     ensures says { answer_of result ≡ first_failure (early_checks p.way p.sender p.receiver p.amount (is_some found)) }
     ensures parties { IfOk result (λ f. found ≡ Some f) }
     ensures amount { OnOk result (T (is_amount p.amount)) }

@@ -14,6 +14,6 @@ pub record PartyAt (t : Table) (c : ℕ) (f : Party ℕ) : Type 0 where
   pub bank : FoundAt t (bank_of c (accounts_of t)) f.bank
 
 -- and both parties of the payment p
-pub record PartiesAt (t : Table) (p : Transfer) (f : Parties) : Type 0 where
+pub record PartiesAt (t : Table) (p : Transfer) (f : Parties ℕ) : Type 0 where
   pub payer_at : PartyAt t (payer (is_credit p.way) p.sender p.receiver) f.payer
   pub payee_at : PartyAt t (payee (is_credit p.way) p.sender p.receiver) f.payee

@@ -39,24 +39,24 @@ rest : (s : Start) (m : Machine) {l : List Listed.Item} → l ≡ map record_of 
 unfolding named_checks
 rest s m e = ap (λ (l : List Listed.Item). first_failure (named_checks s.args.header l m)) e ∙ ap first_failure (change_items m s.args.header (items s))
 
-pub returns-in_err-header_checks : goal.returns-in_err-header_checks
+pub returns-in_err-check_header : goal.returns-in_err-check_header
 unfolding is_count checks header_checks ledger_view view_of
-returns-in_err-header_checks c =
-    let s = (goal.at.returns-in_err-header_checks c).Start in
-    refused_first (asked s) c.args.l.now 6 _ c.in_err-header_checks.field-0.0 (search rules)
-    (rw (c.is_header.ensures, c.is_count.ensures, formed s) at c.in_err-header_checks.ensures.says)
+returns-in_err-check_header c =
+    let s = (goal.at.returns-in_err-check_header c).Start in
+    refused_first (asked s) c.args.l.now 6 _ c.in_err-check_header.field-0.0 (search rules)
+    (rw (c.is_header.ensures, c.is_count.ensures, formed s) at c.in_err-check_header.ensures.says)
 
 -- the items, once their count has passed
 records_are : (s : Start) {l : List Listed.Item} → s.args.items.count ≤ 16 → l ≡ map record_of (map to_item (take s.args.items.count s.args.items.rows)) → l ≡ map record_of (items s)
 records_are s m e = e ∙ ap (map record_of) (sym (items_taken s.args.items.count s.args.items.rows (omega (arith, m, long s))))
 
-pub returns-in_err-named_checks : goal.returns-in_err-named_checks
+pub returns-in_err-check_named : goal.returns-in_err-check_named
 unfolding is_count checks limit_checks header_checks named_checks ledger_view view_of
-returns-in_err-named_checks c =
-    let s = (goal.at.returns-in_err-named_checks c).Start in
-    let m = count_most c.args.header c.args.items.count (rw (c.is_header.ensures, c.is_count.ensures) at c.in_ok-header_checks.ensures.formed) in
-    refused_later (asked s) c.args.l.now 6 tt (rw (c.is_header.ensures, c.is_count.ensures, formed s) at c.in_ok-header_checks.ensures.says)
-    _ c.in_err-named_checks.field-0.0 (search rules) (c.in_err-named_checks.ensures.says ∙ rest s _ (records_are s m (c.deref.ensures.0 ∙ c.records-items.ensures)))
+returns-in_err-check_named c =
+    let s = (goal.at.returns-in_err-check_named c).Start in
+    let m = count_most c.args.header c.args.items.count (rw (c.is_header.ensures, c.is_count.ensures) at c.in_ok-check_header.ensures.formed) in
+    refused_later (asked s) c.args.l.now 6 tt (rw (c.is_header.ensures, c.is_count.ensures, formed s) at c.in_ok-check_header.ensures.says)
+    _ c.in_err-check_named.field-0.0 (search rules) (c.in_err-check_named.ensures.says ∙ rest s _ (records_are s m (c.deref.ensures.0 ∙ c.records-items.ensures)))
 
 changed : (c : After-set_items) → let t = c.t.inside in
     Takes (asked (goal.at.returns c).Start) c.args.l.now (record { codes = t.codes; accounts = c.set_items.new.accounts; count = t.count; day = t.day }) c.add.new.self
@@ -64,11 +64,11 @@ unfolding is_count checks limit_checks header_checks named_checks ledger_view vi
 changed c =
     let s = (goal.at.returns c).Start in
     let set = c.set_items.ensures in
-    let m = count_most c.args.header c.args.items.count (rw (c.is_header.ensures, c.is_count.ensures) at c.in_ok-header_checks.ensures.formed) in
+    let m = count_most c.args.header c.args.items.count (rw (c.is_header.ensures, c.is_count.ensures) at c.in_ok-check_header.ensures.formed) in
     let are = records_are s m (c.deref.ensures.0 ∙ c.records-items.ensures) in
-    taken (asked s) c.args.l.now 6 tt (rw (c.is_header.ensures, c.is_count.ensures, formed s) at c.in_ok-header_checks.ensures.says)
-    c.l.view_is c.l.invariant c.t.view_is (c.in_ok-named_checks.ensures.says ∙ rest s _ are) c.in_ok-named_checks.ensures.room
-    (set_items (of s) (items s)) _ (of s) _ set.listed.own set.listed.long
+    taken (asked s) c.args.l.now 6 tt (rw (c.is_header.ensures, c.is_count.ensures, formed s) at c.in_ok-check_header.ensures.says)
+    c.l.view_is c.l.invariant c.t.view_is (c.in_ok-check_named.ensures.says ∙ rest s _ are) c.in_ok-check_named.ensures.room
+    (set_items (of s) (items s)) _ (of s) _ set.listed.own set.listed.long set.rest
     (set.accounts ∙ ap (λ (is : List Listed.Item). set_records (of s) is (accounts_of (table_of c.t.inside))) (records_are s m (c.deref-2.ensures.0 ∙ c.records-items.ensures)) ∙ records_set (of s) (items s) _)
     (rw c.today.ensures at c.add.ensures.ids) c.add.ensures.used refl
 

@@ -40,19 +40,19 @@ rest s m code e =
     ap (λ c. first_failure (named_checks s.args.header (record { code = c; kind = s.args.kind; value = None } ∷ []) m)) e
     ∙ deletion_item m s.args.header s.args.account s.args.kind
 
-pub returns-in_err-header_checks : goal.returns-in_err-header_checks
+pub returns-in_err-check_header : goal.returns-in_err-check_header
 unfolding checks header_checks ledger_view view_of
-returns-in_err-header_checks c =
-    let s = (goal.at.returns-in_err-header_checks c).Start in
-    refused_first (asked s) c.args.l.now 6 _ c.in_err-header_checks.field-0.0 (search rules)
-    (rw (c.is_header.ensures, formed s) at c.in_err-header_checks.ensures.says)
+returns-in_err-check_header c =
+    let s = (goal.at.returns-in_err-check_header c).Start in
+    refused_first (asked s) c.args.l.now 6 _ c.in_err-check_header.field-0.0 (search rules)
+    (rw (c.is_header.ensures, formed s) at c.in_err-check_header.ensures.says)
 
-pub returns-in_err-named_checks : goal.returns-in_err-named_checks
+pub returns-in_err-check_named : goal.returns-in_err-check_named
 unfolding checks limit_checks header_checks named_checks ledger_view view_of
-returns-in_err-named_checks c =
-    let s = (goal.at.returns-in_err-named_checks c).Start in
-    refused_later (asked s) c.args.l.now 6 tt (rw (c.is_header.ensures, formed s) at c.in_ok-header_checks.ensures.says)
-    _ c.in_err-named_checks.field-0.0 (search rules) (c.in_err-named_checks.ensures.says ∙ rest s _ _ (c.named.ensures ∙ code_is s))
+returns-in_err-check_named c =
+    let s = (goal.at.returns-in_err-check_named c).Start in
+    refused_later (asked s) c.args.l.now 6 tt (rw (c.is_header.ensures, formed s) at c.in_ok-check_header.ensures.says)
+    _ c.in_err-check_named.field-0.0 (search rules) (c.in_err-check_named.ensures.says ∙ rest s _ _ (c.named.ensures ∙ code_is s))
 
 deleted : (c : After-set_items) → let t = c.t.inside in
     Takes (asked (goal.at.returns c).Start) c.args.l.now (record { codes = t.codes; accounts = c.set_items.new.accounts; count = t.count; day = t.day }) c.add.new.self
@@ -61,9 +61,9 @@ deleted c =
     let s = (goal.at.returns c).Start in
     let set = c.set_items.ensures in
     let code = c.named.ensures ∙ code_is s in
-    taken (asked s) c.args.l.now 6 tt (rw (c.is_header.ensures, formed s) at c.in_ok-header_checks.ensures.says)
-    c.l.view_is c.l.invariant c.t.view_is (c.in_ok-named_checks.ensures.says ∙ rest s _ _ code) c.in_ok-named_checks.ensures.room
-    (adjust (named s.args.account) (touch (of s) s.args.kind cleared)) _ (of s) _ set.listed.own set.listed.long
+    taken (asked s) c.args.l.now 6 tt (rw (c.is_header.ensures, formed s) at c.in_ok-check_header.ensures.says)
+    c.l.view_is c.l.invariant c.t.view_is (c.in_ok-check_named.ensures.says ∙ rest s _ _ code) c.in_ok-check_named.ensures.room
+    (adjust (named s.args.account) (touch (of s) s.args.kind cleared)) _ (of s) _ set.listed.own set.listed.long set.rest
     (set.accounts ∙ ap (λ (n : ℕ). adjust n (touch (of s) s.args.kind cleared) (accounts_of (table_of c.t.inside))) code)
     (rw c.today.ensures at c.add.ensures.ids) c.add.ensures.used refl
 

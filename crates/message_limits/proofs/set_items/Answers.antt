@@ -10,6 +10,7 @@ pub loop-item-preserved : goal.loop-item-preserved
 loop-item-preserved c = (
   c.store.ensures.listed,
   set_next _ c.args.items.now c.loop-item.item-index _ _ _ c.loop-item-test.true c.store.ensures.accounts ∙ c.loop-item.invariant.1,
+  c.store.ensures.rest ∙ c.loop-item.invariant.2,
 )
 
 pub returns-clause-accounts : goal.returns-clause-accounts
