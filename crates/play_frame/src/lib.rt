@@ -17,7 +17,8 @@ use call_letters::{mark_bank, set_letters};
 use call_payment::pay;
 use call_query::query;
 use call_search::search;
-use command::{Command, command_of, parse, transfer_at};
+use command::{Command, command_of, transfer_at};
+use frame::well_formed;
 use ledger::Ledger;
 use refusal::Refusal;
 
@@ -53,17 +54,6 @@ fn perform(l: &mut Ledger, command: &Command, report: &mut [u8]) -> Result<usize
     }
 }
 
-// The command that the bytes hold is played; where they hold none, they are ill-formed, and nothing changes.
-#[tactic(auto, unfolding(command::specs::View::commands))]
-pub fn step(l: &mut Ledger, frame: &[u8], report: &mut [u8]) -> Result<usize, Refusal>
-    ensures { Reports (commands_of frame.now) l.old report.old result l.new report.new }
-{
-    let Some(command) = parse(frame) else {
-        return Err(Refusal::IllFormed);
-    };
-    perform(l, &command, report)
-}
-
 // The command of a frame is played. That the bytes are a frame is asked, here and below, as in `command`.
 fn play_any(l: &mut Ledger, frame: &[u8], report: &mut [u8]) -> Result<usize, Refusal>
     requires { is_frame frame.now ≡ true }
@@ -84,4 +74,14 @@ pub fn play(l: &mut Ledger, frame: &[u8], report: &mut [u8]) -> Result<usize, Re
     } else {
         play_any(l, frame, report)
     }
+}
+
+// The command that the bytes hold is played; where they hold none, they are ill-formed, and nothing changes.
+pub fn step(l: &mut Ledger, frame: &[u8], report: &mut [u8]) -> Result<usize, Refusal>
+    ensures { Reports (commands_of frame.now) l.old report.old result l.new report.new }
+{
+    if !well_formed(frame) {
+        return Err(Refusal::IllFormed);
+    }
+    play(l, frame, report)
 }

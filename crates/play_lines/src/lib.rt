@@ -9,11 +9,11 @@ ghost use Rattle.ledger.specs.Promise.{Reports, length_of};
 ghost use Rattle.lines.specs.Text.{printed};
 ghost use Rattle.play_lines.specs.Run.{RunIs};
 
-use frame_reader::unpack_frame;
+use frame_reader::unpack;
 use ledger::Ledger;
 use lines::{REPORT_ROOM, next_end, write_line};
 use octet_writer::Writer;
-use play_frame::play;
+use play_frame::step;
 use refusal::Refusal;
 
 // How many bytes of the text were played, and how many were written.
@@ -23,7 +23,7 @@ pub struct Extent {
     pub written: usize,
 }
 
-// Plays the frame that a line is. Where it is none, nothing changes.
+// Plays the frame that a line is. Where it is none, nothing changes: a line that is no digits has no bytes, and they are no frame.
 fn play_line(
     l: &mut Ledger,
     line: &[u8],
@@ -33,8 +33,8 @@ fn play_line(
     requires { 352 ≤ length frame.old }
     ensures { Reports (commands_of (line_frame line.now)) l.old report.old result l.new report.new }
 {
-    let n = unpack_frame(line, frame).ok_or(Refusal::IllFormed)?;
-    play(l, &frame[..n], report)
+    let n = unpack(line, frame).unwrap_or(0);
+    step(l, &frame[..n], report)
 }
 
 // Writes the answer line of what a frame was answered.
