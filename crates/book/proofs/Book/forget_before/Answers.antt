@@ -1,10 +1,10 @@
--- What stays is moved down. Assumes nothing.
+-- What stays is moved down, or, where all stays, is where it was. Assumes nothing.
 use Prim.Native.Nat.{◌-◌, ◌*◌}
-use mathlib.Core.Path.{◌∙◌}
+use mathlib.Core.Path.{◌≡◌, ◌∙◌}
 use native.Mathlib.Omega.{arith}
 use Rattle.octets.proofs.Places.{moved_front}
 use Rattle.book.specs.Entries.{book_of}
-use Rattle.book.proofs.Laws.{rising, dropped}
+use Rattle.book.proofs.Laws.{rising, write_back, dropped}
 use Rattle.book.proofs.Book.forget_before.Goals as goal
 
 pub count_before-gone-requires : goal.count_before-gone-requires
@@ -12,6 +12,16 @@ unfolding book_of
 count_before-gone-requires c =
     let b = c.args.self.now in
     rising b.ids b.days b.used (omega (arith, c.requires.1.days_long)) c.requires.2
+
+pub returns-then-gone-eq0 : goal.returns-then-gone-eq0
+unfolding book_of
+returns-then-gone-eq0 c =
+    let b = c.args.self.now in
+    let gone = c.count_before-gone.result in
+    let none : gone ≡ 0 = omega (arith, c.if-gone-eq0.true) in
+    dropped b.ids b.days b.used c.args.day _ _ gone _ c.requires.0 c.requires.1 c.count_before-gone.ensures.parted (omega (arith, none))
+    (write_back b.ids (gone * 32) _ (omega (arith, none)) (omega (arith, c.requires.0, c.requires.1.ids_long)))
+    (write_back b.days gone _ none (omega (arith, c.requires.0, c.requires.1.days_long)))
 
 pub returns : goal.returns
 unfolding book_of
