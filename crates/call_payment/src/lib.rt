@@ -9,7 +9,7 @@ ghost use Rattle.rules.specs.Machine.{answer, first_failure};
 ghost use Rattle.rules.specs.Payment as Rule;
 ghost use Rattle.refusal.specs.Answer.{answer_of};
 ghost use Rattle.account.specs.View.{to_account};
-ghost use Rattle.table.specs.Promise.{Calls, call};
+ghost use Rattle.table.specs.Promise.{Called, Calls, call};
 ghost use Rattle.table.specs.View.{machine_of};
 ghost use Rattle.payment_checks.specs.Checks.{early_checks, party_checks};
 ghost use Rattle.payment_parties.specs.Finding.{PartiesAt};
@@ -60,17 +60,27 @@ pub fn judge(t: &Table, p: Transfer) -> Result<Parties<usize>, Refusal>
     }
 }
 
-// Each account is read again before it is stored: two of the four may be one, as where both parties have one bank.
-#[tactic(auto, using(table::proofs::Called::declined))]
-pub fn pay(t: &mut Table, p: Transfer) -> Result<(), Refusal>
-    ensures { Calls (Payment p.way p.sender p.receiver p.amount) t.old result t.new }
+// What passes is booked at both sides. Each account is read again before it is stored: two of the four may be one, as where both parties have one bank.
+fn book_parties(t: &mut Table, p: Transfer, parties: Parties<usize>)
+    requires parties { PartiesAt t.old p parties }
+    requires amount { T (is_amount p.amount) }
+    requires passes { answer (machine_of t.old) (call (Payment p.way p.sender p.receiver p.amount)) ≡ 0 }
+    ensures { Called (Payment p.way p.sender p.receiver p.amount) t.old (record { answer = 0; table = t.new }) }
 {
-    let parties = judge(t, p)?;
     let payer = parties.payer;
     let payee = parties.payee;
     t.accounts[payer.bank] = bank_booked(t.accounts[payer.bank], Side::Payer, p);
     t.accounts[payer.account] = own_booked(t.accounts[payer.account], Side::Payer, p);
     t.accounts[payee.bank] = bank_booked(t.accounts[payee.bank], Side::Payee, p);
     t.accounts[payee.account] = own_booked(t.accounts[payee.account], Side::Payee, p);
+}
+
+// The checks, and what is booked where they pass.
+#[tactic(auto, using(table::proofs::Called::declined))]
+pub fn pay(t: &mut Table, p: Transfer) -> Result<(), Refusal>
+    ensures { Calls (Payment p.way p.sender p.receiver p.amount) t.old result t.new }
+{
+    let parties = judge(t, p)?;
+    book_parties(t, p, parties);
     Ok(())
 }
