@@ -1,13 +1,14 @@
+use native.Mathlib.Omega.{arith}
 use mir.Syntax.{w64}
 use mir.Val.{SFits}
 use mir.Facts.{to_z-of_z}
 use borrow.Author.Rules.{rules}
 use Rattle.command.specs.View.{to_command}
-use Rattle.play_frame.proofs.Laws.{sound_after, by_book, by_table}
+use Rattle.play_frame.proofs.Laws.{fewer, sound_after, by_book, by_table}
 use Rattle.play_frame.proofs.perform.Goals as goal
 
 pub invariant_of-l : goal.invariant_of-l
-invariant_of-l c = sound_after tt c.bank_open.ensures c.l.invariant
+invariant_of-l c = sound_after tt c.bank_open.ensures (fewer (omega arith) c.l.invariant)
 
 pub returns-in-Bank : goal.returns-in-Bank
 unfolding to_command
@@ -15,7 +16,7 @@ returns-in-Bank c =
     rw (c.in-Bank.is, ← c.l.view_is) (by_table tt c.bank_open.ensures c.unreported.ensures)
 
 pub invariant_of-l-in-Branch : goal.invariant_of-l-in-Branch
-invariant_of-l-in-Branch c = sound_after tt c.branch_open.ensures c.l-in-Branch.invariant
+invariant_of-l-in-Branch c = sound_after tt c.branch_open.ensures (fewer (omega arith) c.l-in-Branch.invariant)
 
 pub returns-in-Branch : goal.returns-in-Branch
 unfolding to_command
