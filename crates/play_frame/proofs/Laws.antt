@@ -1,14 +1,13 @@
 -- A call's promise as that of the command that it plays. Assumes nothing.
 use mathlib.Core.Path.{◌≡◌, subst}
-use mathlib.Core.List.{List, [], ◌∷◌, ◌++◌}
+use mathlib.Core.List.{List, [], ◌∷◌}
 use native.Mathlib.Omega.{arith}
-use Prim.Native.Nat.{ℕ, zero, suc, ◌+◌, ◌-◌, ◌≤◌}
+use Prim.Native.Nat.{ℕ, ◌+◌, ◌-◌, ◌≤◌}
 use lib.Dec.{T}
 use Rattle.rules.specs.Command.{Command}
-use Rattle.rules.specs.Invariant.{All, EntryFit, Before, InOrder, Book}
-use Rattle.rules.specs.Message.{Entry}
+use Rattle.rules.specs.Invariant.{Book}
 use Rattle.book.specs.Entries.{entries_of}
-use Rattle.book.proofs.Laws.{entries_length}
+use Rattle.book.proofs.Laws.{first_places}
 use Rattle.table.specs.declared.Table.{Table}
 use Rattle.table.specs.Promise.{Called}
 use Rattle.ledger.specs.Promise.{Sound, Settled, Played}
@@ -16,28 +15,7 @@ use Rattle.ledger.specs.View.{view_of}
 use Rattle.ledger.specs.Calls.{Reach, OnTable, OnBook, OnReport, reach, table_alone, no_report, plain, silent}
 use Rattle.ledger.proofs.Laws.{settled_table, played_silent}
 
--- ---- a record that loses ids is sound all the same, so that an edit that forgets them is refused for what the call promises
-
-all_front : {A : Type 0} (P : A → Type 0) (xs ys : List A) → All P (xs ++ ys) → All P xs
-all_front P [] ys a = tt
-all_front P (x ∷ xs) ys a = (a.0, all_front P xs ys a.1)
-
-order_front : (es fs : List Entry) → InOrder (es ++ fs) → InOrder es
-order_front [] fs o = tt
-order_front (e ∷ es) fs o = (all_front (Before e) es fs o.0, order_front es fs o.1)
-
-without_last : (today : ℕ) (ids days : List ℕ) (n : ℕ) → Book today (entries_of ids days (suc n)) → Book today (entries_of ids days n)
-unfolding entries_of
-without_last today ids days n b = record {
-  few = omega (arith, b.few, entries_length ids days n, entries_length ids days (suc n));
-  fit = all_front (EntryFit today) (entries_of ids days n) _ b.fit;
-  in_order = order_front (entries_of ids days n) _ b.in_order;
-}
-
-first_of : (today : ℕ) (ids days : List ℕ) (n k : ℕ) → Book today (entries_of ids days (n + k)) → Book today (entries_of ids days n)
-first_of today ids days n zero b = let z : n + 0 ≡ n = omega arith in rw z at b
-first_of today ids days n (suc k) b = let s : n + suc k ≡ suc (n + k) = omega arith in first_of today ids days n k (without_last today ids days (n + k) (rw s at b))
-
+-- a record that loses ids is sound all the same: so an edit that forgets them is refused for what the call promises
 pub fewer : {t : Table} {ids days : List ℕ} {used n : ℕ} → n ≤ used → Sound t ids days used → Sound t ids days n
 unfolding view_of
 fewer {t} {ids} {days} {used} {n} h s =
@@ -54,12 +32,10 @@ fewer {t} {ids} {days} {used} {n} h s =
         earlier = i.earlier;
         bounded = i.bounded;
         one_mark = i.one_mark;
-        book = first_of t.day ids days n (used - n) (subst (λ u. Book t.day (entries_of ids days u)) e i.book);
+        book = first_places t.day ids days n (used - n) (subst (λ u. Book t.day (entries_of ids days u)) e i.book);
         day_fits = i.day_fits;
       };
     }
-
--- ---- by kind
 
 -- a kind that looks at the table alone has no report
 plain_silent : (k : Command) → T (plain k) → T (silent k)
